@@ -271,6 +271,20 @@ def answers():
                     for number in range(3))
     yield session("an order of many turns", document("a.x == 1 and b.y == 1"), a=A + turns + END, b=B + "".join(
         f'{{"recv":"a{number}"}}\n{{"set":{{"y":{number % 2}}}}}\n{{"send":"b{number}"}}\n' for number in range(3)) + END)
+    yield session("messages by turns prevent a state", a=A + "".join(
+        f'{{"set":{{"x":1}}}}\n{{"set":{{"x":0}}}}\n{{"send":"a{number}"}}\n{{"recv":"b{number}"}}\n'
+        for number in range(4)) + END, b=B + "".join(
+        f'{{"recv":"a{number}","set":{{"y":1}}}}\n{{"set":{{"y":0}}}}\n{{"send":"b{number}"}}\n'
+        for number in range(4)) + END)
+    yield session("the states of one process prevent a state", document(
+        "a.x == 1 and a.z == 0 and b.y == 0", processes=[
+            {"name": "a", "vars": {"x": 0, "z": 0}}, {"name": "b", "vars": {"y": 0}}]),
+        a=A + '{"set":{"z":1}}\n{"set":{"x":1}}\n' + END)
+    yield session("a state is prevented, and it isn't decided by what", document(
+        "a.x + b.y + c.z == 3", processes=[
+            {"name": "a", "vars": {"x": 0}}, {"name": "b", "vars": {"y": 0}}, {"name": "c", "vars": {"z": 0}}]),
+        a=A + '{"set":{"x":2}}\n' + END, b=B + '{"set":{"y":2}}\n' + END,
+        c='{"process":"c"}\n{"set":{"z":2}}\n' + END, words=("c.stream",))
     yield session("no event sets a variable", b=B + "{}\n" + END)
     yield session("two runs stand in one file", a=EARLY + EARLY, b=TAKES)
     yield session("one line stands after an end line", a=EARLY + "\n" + END, b=TAKES)

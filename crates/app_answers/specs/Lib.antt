@@ -1,1 +1,2 @@
 -- What the clauses cite.
+pub mod Sessions

@@ -1,13 +1,17 @@
 //! What is said of each answer that is known.
+ghost use Rattle.app_answers.specs.Sessions.{IsJudged};
+
 use super::possible::{named_count, say_possible};
 use super::session::Session;
 use super::undecided::{say_bundle, say_undecided};
+use super::why_not::say_why_not;
 use app_text::{say, say_name, say_number};
 use judge_facts::first_run;
-use pd_pred::Tree;
+use pd_pred::Pred;
 use pd_report::{Answer, Definitely, Path, Possibly};
 use pd_spec::NamedPred;
 use std::alloc::{AllocError, Global};
+use std::random::RandomSource;
 
 /// The most runs of steps by which an observation is said.
 const RUNS: u64 = 4;
@@ -71,21 +75,22 @@ fn say_path(out: &mut Vec<u8>, path: &Path) -> Result<(), AllocError> {
     say(out, ".\n")
 }
 
-/// Says that a predicate can't be true.
-fn say_impossible(
+/// Says that a predicate can't be true, and why.
+fn say_impossible<R: RandomSource>(
     out: &mut Vec<u8>,
+    rt: &R,
+    alloc: Global,
+    session: &Session<'_, '_>,
     name: &str,
-    tree: &Tree,
-    processes: usize,
-) -> Result<(), AllocError> {
+    pred: &Pred,
+) -> Result<(), AllocError>
+    requires { IsJudged session.now }
+{
     say_name(out, name)?;
-    if named_count(tree, processes) == 0 {
+    if named_count(pred.tree(), session.computation.processes()) == 0 {
         return say(out, " cannot happen: it names no variable, and is false.\n");
     }
-    say(
-        out,
-        " cannot happen: it is false in every global state that fits the messages.\n",
-    )
+    say_why_not(out, rt, alloc, session, pred)
 }
 
 /// Says that a predicate is true in each order, at the latest at this level.
@@ -120,18 +125,21 @@ fn say_avoidable(out: &mut Vec<u8>, name: &str, path: &Path) -> Result<(), Alloc
 }
 
 /// Says what a known answer means. That what can't happen need not isn't said.
-fn say_answer(
+fn say_answer<R: RandomSource>(
     out: &mut Vec<u8>,
+    rt: &R,
     alloc: Global,
     session: &Session<'_, '_>,
     asked: &NamedPred,
     answer: &Answer,
-) -> Result<(), AllocError> {
+) -> Result<(), AllocError>
+    requires { IsJudged session.now }
+{
     let (name, tree) = (answer.name.as_str(), asked.pred.tree());
     match &answer.possibly {
         Possibly::Yes(counts) => say_possible(out, alloc, session, name, tree, counts)?,
         Possibly::No => {
-            return say_impossible(out, name, tree, session.computation.processes());
+            return say_impossible(out, rt, alloc, session, name, &asked.pred);
         }
         Possibly::Unknown(_) => {}
     }
@@ -148,17 +156,20 @@ fn say_answer(
 ///
 /// # Errors
 /// Out of memory; what was put until then stays.
-pub fn explain_known(
+pub fn explain_known<R: RandomSource>(
     out: &mut Vec<u8>,
+    rt: &R,
     alloc: Global,
     session: &Session<'_, '_>,
     answers: &[Answer],
-) -> Result<(), AllocError> {
+) -> Result<(), AllocError>
+    requires { IsJudged session.now }
+{
     let predicates = session.spec.predicates();
     let mut is_undecided = false;
     for (place, answer) in answers.iter().enumerate() {
         if let Some(asked) = predicates.get(place) {
-            say_answer(out, alloc, session, asked, answer)?;
+            say_answer(out, rt, alloc, session, asked, answer)?;
             let said = say_undecided(out, session, asked.pred.tree(), answer)?;
             is_undecided = is_undecided || said;
         }

@@ -7,6 +7,7 @@
 //! - `session`: a session that was judged, with what was read of it
 //! - `places`: where an event was recorded, and what it did
 //! - `possible`: what can happen, where and why
+//! - `why_not`: why a predicate can't be true
 //! - `answers`: what is said of each answer that is known
 //! - `forms`: whether rules decide a predicate at any width
 //! - `undecided`: what would decide an answer that is unknown
@@ -22,6 +23,7 @@ mod possible;
 mod session;
 mod undecided;
 mod warnings;
+mod why_not;
 
 pub use after_end::records_after;
 pub use answers::explain_known;

@@ -1,0 +1,295 @@
+//! Says why a predicate can't be true.
+ghost use Rattle.app_answers.specs.Sessions.{IsJudged};
+
+use super::places::say_place;
+use super::possible::named_count;
+use super::session::{Session, name_of, vars_of};
+use app_text::{say, say_name, say_number, say_shown};
+use def_format::Version;
+use judge_causes::{Asked, Causes, causes_of, own_orders};
+use judge_facts::{kind_at, names_process, names_variable};
+use pd_clock::Place;
+use pd_pred::{Pred, Tree};
+use read_traces::Kind;
+use std::alloc::{AllocError, Global};
+use std::random::RandomSource;
+
+/// The most messages that are named.
+const SHOWN: usize = 6;
+/// As many events are looked at in all trials together, and there are at least so many trials.
+const LOOKED_AT: u64 = 6_000_000;
+
+const LEAST: u64 = 8;
+/// So many comparisons take as long as all else of a trial, and so many pairs of counts as long as an event.
+const COMPARISONS: u64 = 16;
+
+const PAIRS: u64 = 64;
+
+/// How many comparisons a predicate has.
+fn comparisons(tree: &Tree) -> u64 {
+    match tree {
+        Tree::Always | Tree::Never | Tree::Compare { .. } => 1,
+        Tree::Not(inner) => comparisons(inner),
+        Tree::And(left, right) | Tree::Or(left, right) => {
+            comparisons(left).saturating_add(comparisons(right))
+        }
+    }
+}
+
+/// Whether some comparison names several of this many processes.
+fn mixes(tree: &Tree, processes: usize) -> bool {
+    match tree {
+        Tree::Always | Tree::Never => false,
+        Tree::Compare { .. } => named_count(tree, processes) > 1,
+        Tree::Not(inner) => mixes(inner, processes),
+        Tree::And(left, right) | Tree::Or(left, right) => {
+            mixes(left, processes) || mixes(right, processes)
+        }
+    }
+}
+
+/// How many pairs of counts there are, if a predicate is asked by those of two processes.
+fn pairs_of(session: &Session<'_, '_>, tree: &Tree) -> u64 {
+    let processes = session.computation.processes();
+    if named_count(tree, processes) != 2 || !mixes(tree, processes) {
+        return 0;
+    }
+    let mut pairs = 1u64;
+    for process in 0..processes {
+        if names_process(tree, process) {
+            pairs = pairs.saturating_mul(session.computation.events(process));
+        }
+    }
+    pairs
+}
+
+/// How many trials there may be, by what one takes.
+fn trials_for(session: &Session<'_, '_>, tree: &Tree) -> u64 {
+    let events = session.computation.total();
+    let more = comparisons(tree).checked_div(COMPARISONS).unwrap_or(0);
+    let pairs = pairs_of(session, tree).checked_div(PAIRS).unwrap_or(0);
+    let cost = events
+        .saturating_mul(more.saturating_add(1))
+        .saturating_add(pairs);
+    let trials = LOOKED_AT.checked_div(cost).unwrap_or(LOOKED_AT);
+    if trials < LEAST { LEAST } else { trials }
+}
+
+/// Says which of the processes a predicate names.
+fn say_named(out: &mut Vec<u8>, session: &Session<'_, '_>, tree: &Tree) -> Result<(), AllocError> {
+    let mut before = "";
+    for process in 0..session.computation.processes() {
+        if names_process(tree, process) {
+            say(out, before)?;
+            say_name(out, name_of(session.spec.names(), process))?;
+            before = ", ";
+        }
+    }
+    Ok(())
+}
+
+/// Whether a predicate names several variables of one process: then it matters in which order that had its states.
+fn names_several(session: &Session<'_, '_>, tree: &Tree) -> bool {
+    for process in 0..session.computation.processes() {
+        let mut named = 0u64;
+        for var in 0..vars_of(session.spec.names(), process).len() {
+            if names_variable(tree, process, var) {
+                named = named.saturating_add(1);
+            }
+        }
+        if named > 1 {
+            return true;
+        }
+    }
+    false
+}
+
+/// Says that no states satisfy a predicate, whatever the messages are.
+fn say_stateless(
+    out: &mut Vec<u8>,
+    session: &Session<'_, '_>,
+    tree: &Tree,
+) -> Result<(), AllocError> {
+    say(
+        out,
+        " cannot happen, whatever the messages are: it is false for all values that ",
+    )?;
+    say_named(out, session, tree)?;
+    say(out, " have at any time.\n")?;
+    if !names_several(session, tree) {
+        return Ok(());
+    }
+    say(
+        out,
+        "If one of these ran several tasks side by side, record each as a process.\n",
+    )
+}
+
+/// Says which event stands at a place, and where it was recorded.
+fn say_event(
+    out: &mut Vec<u8>,
+    session: &Session<'_, '_>,
+    place: Place,
+    article: &str,
+) -> Result<(), AllocError> {
+    say(out, article)?;
+    say_number(out, place.number)?;
+    say(out, " of ")?;
+    say_name(out, name_of(session.spec.names(), place.process))?;
+    say_place(out, session, place)
+}
+
+/// Says who sends a message that is received at this place.
+fn say_message(
+    out: &mut Vec<u8>,
+    session: &Session<'_, '_>,
+    receipt: Place,
+) -> Result<(), AllocError> {
+    if !session.computation.has(receipt) {
+        return Ok(());
+    }
+    let Some(send) = session.computation.sender(receipt) else {
+        return Ok(());
+    };
+    say_event(out, session, send, "Event ")?;
+    say(out, " sends ")?;
+    if let Some(Kind::Recv(id)) = kind_at(session.traces, receipt) {
+        say(out, "`")?;
+        say_shown(out, id)?;
+        say(out, "`")?;
+    }
+    say_event(out, session, receipt, ", which event ")?;
+    say(out, " receives.\n")
+}
+
+/// What prevents a predicate, one of them or several: in version 2 several processes may receive one message.
+fn preventing(version: Version, count: u64) -> &'static str {
+    match version {
+        Version::One => {
+            if count == 1 {
+                " message prevents it"
+            } else {
+                " messages prevent it"
+            }
+        }
+        Version::Two => {
+            if count == 1 {
+                " receipt of a message prevents it"
+            } else {
+                " receipts of messages prevent it"
+            }
+        }
+    }
+}
+
+/// Says how many messages prevent a predicate.
+fn say_count(out: &mut Vec<u8>, version: Version, causes: &Causes) -> Result<(), AllocError> {
+    let count = causes.receipts.len() as u64;
+    say(out, " cannot happen: ")?;
+    say_number(out, count)?;
+    say(out, preventing(version, count))?;
+    say(
+        out,
+        if causes.are_needed {
+            ", whatever else happens.\n"
+        } else {
+            ", whatever else happens; fewer may be enough.\n"
+        },
+    )
+}
+
+/// Says which receipts come before which sends by the order of one process alone, each once.
+fn say_own_orders(
+    out: &mut Vec<u8>,
+    session: &Session<'_, '_>,
+    pairs: &[(Place, Place)],
+) -> Result<(), AllocError> {
+    for (place, (receipt, send)) in pairs.iter().enumerate() {
+        let earlier = pairs.get(..place).unwrap_or(&[]);
+        if !earlier.contains(&(*receipt, *send)) {
+            say(out, "The order of ")?;
+            say_name(out, name_of(session.spec.names(), send.process))?;
+            say(out, " alone puts its event ")?;
+            say_number(out, receipt.number)?;
+            say(out, " before its event ")?;
+            say_number(out, send.number)?;
+            say(out, ".\n")?;
+        }
+    }
+    if pairs.is_empty() {
+        return Ok(());
+    }
+    say(
+        out,
+        "If it ran several tasks side by side, record each as a process.\n",
+    )
+}
+
+/// Says which messages prevent a predicate, the first ones if they are many.
+fn say_messages(
+    out: &mut Vec<u8>,
+    alloc: Global,
+    session: &Session<'_, '_>,
+    causes: &Causes,
+) -> Result<(), AllocError> {
+    let count = causes.receipts.len();
+    say_count(out, session.spec.version(), causes)?;
+    if count > SHOWN {
+        say(out, "The first of them are these:\n")?;
+    }
+    let shown = causes.receipts.get(..SHOWN).unwrap_or(&causes.receipts);
+    for receipt in shown {
+        say_message(out, session, *receipt)?;
+    }
+    if causes.are_needed && count > 1 {
+        say(
+            out,
+            "Each of them is needed: the others alone do not prevent it.\n",
+        )?;
+    }
+    if count > SHOWN {
+        return Ok(());
+    }
+    let pairs = own_orders(alloc, session.computation, shown)?;
+    say_own_orders(out, session, &pairs)
+}
+
+/// Says no more than that a predicate can't be true.
+fn say_false(out: &mut Vec<u8>) -> Result<(), AllocError> {
+    say(
+        out,
+        " cannot happen: it is false in every global state that fits the messages.\n",
+    )
+}
+
+/// Says why a predicate can't be true, after its name.
+///
+/// # Errors
+/// An allocation was refused.
+pub(crate) fn say_why_not<R: RandomSource>(
+    out: &mut Vec<u8>,
+    rt: &R,
+    alloc: Global,
+    session: &Session<'_, '_>,
+    pred: &Pred,
+) -> Result<(), AllocError>
+    requires { IsJudged session.now }
+{
+    let asked = Asked {
+        spec: session.spec,
+        traces: session.traces,
+        pred,
+    };
+    let trials = trials_for(session, pred.tree());
+    let found = causes_of(rt, alloc, &asked, session.computation, trials)?;
+    let Some(causes) = found else {
+        return say_false(out);
+    };
+    if causes.receipts.is_empty() {
+        return say_stateless(out, session, pred.tree());
+    }
+    if !causes.are_needed && causes.receipts.len() > SHOWN {
+        return say_false(out);
+    }
+    say_messages(out, alloc, session, &causes)
+}
