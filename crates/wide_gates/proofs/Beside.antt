@@ -57,6 +57,16 @@ none_later c last e q n event same up none = record {
       event)));
 }
 
+-- the process of an event is there
+pub place_inside : (c : Computation) (f : Place) → IsEvent c f → f.process < length c
+place_inside c f is = pick (cases_lt f.process (length c))
+  where
+    pick : (f.process < length c) ⊎ (length c ≤ f.process) → f.process < length c
+    pick (inl lt) = lt
+    pick (inr le) =
+        let none : event_count c f.process ≡ 0 = ap length (get_or_past c f.process [] le) in
+        absurd (omega (arith, none, is.0, is.1))
+
 -- ---- counts right before and right after an event
 
 -- counts that are beside an event are around it
@@ -204,15 +214,6 @@ module _ (c : Computation) (acyclic : HasNoCycle c) where
               omega (arith, i, h, k, event.1)
           pick (inl lt) (inr other) = (other_between q lt other).within
 
-      inside : (f : Place) → IsEvent c f → f.process < length c
-      inside f is = pick (cases_lt f.process (length c))
-        where
-          pick : (f.process < length c) ⊎ (length c ≤ f.process) → f.process < length c
-          pick (inl lt) = lt
-          pick (inr le) =
-              let none : event_count c f.process ≡ 0 = ap length (get_or_past c f.process [] le) in
-              absurd (omega (arith, none, is.0, is.1))
-
       is_around : IsAround c (event_of spot) counts
       is_around = record {
         fits = record { one_each = one_each; within = within };
@@ -230,7 +231,7 @@ module _ (c : Computation) (acyclic : HasNoCycle c) where
               (are.0.0, omega (arith, less, i, l))
           past f before (inr other) =
               let are = events_of_happens c f (event_of spot) before in
-              (are.0.0, (other_between f.process (inside f are.0) other).past f.number before)
+              (are.0.0, (other_between f.process (place_inside c f are.0) other).past f.number before)
 
           none_after : (f : Place) → HappenedBefore c (event_of spot) f → Includes counts f
               → (f.process ≡ spot.place.process) ⊎ (f.process ≡ spot.place.process → ⊥) → ⊥
@@ -241,7 +242,7 @@ module _ (c : Computation) (acyclic : HasNoCycle c) where
               omega (arith, less, i, h, includes.1)
           none_after f before includes (inr other) =
               let are = events_of_happens c (event_of spot) f before in
-              (other_between f.process (inside f are.1) other).none_after f.number includes.0 includes.1 before
+              (other_between f.process (place_inside c f are.1) other).none_after f.number includes.0 includes.1 before
 
       beside : (after : Bool) → spot.after ≡ after → IsAt c spot counts
       beside true is =

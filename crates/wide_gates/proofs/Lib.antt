@@ -1,6 +1,7 @@
 -- Lemmas on gates.
 mod Pushes
 mod Beside
+mod Sharing
 mod Widths
 mod Products
 mod Counting

@@ -1,20 +1,18 @@
 -- Greatest sums, one process after another.
-use Rattle.std.proofs.Common.{replicate, ◌≡◌, ◌≢◌, inl, inr, ◌⊎◌, ◌↔◌, ℕ, zero, suc, ◌+◌, ◌<◌, ◌≤◌, List, [], ◌∷◌, ◌++◌, length, get_or, set, take, ℤ, pos, ◌+ℤ◌, ◌≤ℤ◌, refl, sym, ap, ◌∙◌, subst, arith}
+use Rattle.std.proofs.Common.{◌≡◌, inl, inr, ◌⊎◌, ◌↔◌, ℕ, zero, suc, ◌+◌, ◌*◌, ◌<◌, ◌≤◌, List, [], ◌∷◌, ◌++◌, length, get_or, set, take, ℤ, pos, ◌+ℤ◌, ◌-ℤ◌, ◌≤ℤ◌, refl, sym, ap, ◌∙◌, subst, arith}
 use Rattle.std.proofs.lemmas.Bool.{cases_eq}
 use Rattle.std.proofs.lemmas.Int.{ints}
-use Rattle.std.proofs.lemmas.List.{get_or-set_other, get_or-set_same, get_or-replicate, get_or-take, length-replicate, length-set, length-take-le, length_push, take_all, take_more}
+use Rattle.std.proofs.lemmas.List.{get_or_default, get_or-set_other, get_or-set_same, get_or-take, length-set, length-take-le, length_push, take_all, take_more}
 use Rattle.std.specs.Prelude.{Vec, unsigned_abs}
 use Rattle.std.specs.Global.{Global}
-use Rattle.def_model.specs.Events.{Computation, Place, IsEvent}
-use Rattle.def_model.proofs.Chains.{same_place}
+use Rattle.def_model.specs.Events.{Computation, IsEvent}
 use Rattle.def_model.specs.Order.{HasNoCycle}
-use Rattle.wide_gates.proofs.Beside.{apart, around, together}
+use Rattle.wide_gates.proofs.Beside.{apart, around, place_inside, together}
 use Rattle.wide_gates.proofs.Pushes.{each_push}
-use Rattle.wide_gates.specs.Greatest.{AreMost, AreMostUpTo, HaveAdded, IsMost, IsMostUpTo}
-use Rattle.wide_gates.specs.Highs.{HasNoneAfter}
-use Rattle.wide_gates.specs.Most.{HasMost}
-use Rattle.wide_gates.specs.Ranges.{IsRange}
-use Rattle.wide_gates.specs.Spots.{AreThere, CanHave, IsAt, IsBetween, event_of}
+use Rattle.wide_gates.specs.Boxes.{HasBox, HaveBoxes}
+use Rattle.wide_gates.specs.Greatest.{AreBoxSums, IsMost, IsMostUpTo}
+use Rattle.wide_gates.specs.Ranges.{InRanges}
+use Rattle.wide_gates.specs.Spots.{AreThere, CanHave, IsAt, event_of, own_count}
 use Rattle.wide_gates.specs.Tables.{IsGreatest}
 use Rattle.wide_gates.specs.declared.range.Range.{Range}
 use Rattle.wide_gates.specs.declared.spot.Spot.{Spot}
@@ -95,64 +93,6 @@ most_more values May n row low end old x lt at before is small may = record {
         (λ q less. subst (May q) (sym (get_or-take n other q 0 less)) (each q (omega (arith, less)))) in
         omega (arith, ints, e, f, g, h, own, rest)
 
--- the greatest between the bounds of the process added
-pub range_more : (c : Computation) (spot : Spot) (values : List (Vec ℤ Global)) (n : ℕ) (row : Vec ℤ Global)
-    (range : Range) (old x : ℤ) → n < length values → row ≡ get_or values n row
-    → IsMostUpTo values (CanHave c spot) n old → IsRange c spot n range
-    → IsGreatest row.items range.low (range.high + 1) x → unsigned_abs x ≤ value_limit
-    → IsMostUpTo values (CanHave c spot) (n + 1) (old +ℤ x)
-range_more c spot values n row range old x lt at before between is small =
-    most_more values (CanHave c spot) n row range.low (range.high + 1) old x lt at before is small
-    (λ count. (
-      λ within. (between.each count).0 (within.0, omega (arith, within.1)),
-      λ may. let w : (range.low ≤ count) × (count ≤ range.high) = (between.each count).1 may in
-          (w.0, omega (arith, w.1)),
-    ))
-
--- at the same event another process may have the same counts
-pub most_beside : (c : Computation) (last spot : Spot) (q : ℕ) (row : List ℤ) (number : ℤ)
-    → last.place.process ≡ spot.place.process → last.place.number ≡ spot.place.number → q ≢ spot.place.process
-    → HasMost c last q row number → HasMost c spot q row number
-most_beside c last spot q row number process place other most = record {
-  range = most.range;
-  between = record {
-    ordered = most.between.ordered;
-    within = most.between.within;
-    each = λ count. (
-      λ within. to count ((most.between.each count).0 within),
-      λ may. (most.between.each count).1 (from count may),
-    );
-  };
-  greatest = most.greatest;
-}
-  where
-    same : event_of last ≡ event_of spot
-    same = same_place (event_of last) (event_of spot) process place
-
-    to : (count : ℕ) → CanHave c last q count → CanHave c spot q count
-    to count (inl (own, is)) = absurd (other (own ∙ process))
-    to count (inr (apart, is)) = inr (other, subst (λ (e : Place). IsBetween c e q count) same is)
-
-    from : (count : ℕ) → CanHave c spot q count → CanHave c last q count
-    from count (inl (own, is)) = absurd (other own)
-    from count (inr (apart, is)) =
-        inr (λ own. other (own ∙ process), subst (λ (e : Place). IsBetween c e q count) (sym same) is)
-
-pub none_beside : (c : Computation) (last spot : Spot) (q high : ℕ) → last.place.process ≡ spot.place.process
-    → last.place.number ≡ spot.place.number → HasNoneAfter c (event_of last) q high
-    → HasNoneAfter c (event_of spot) q high
-none_beside c last spot q high process place none =
-    subst (λ (e : Place). HasNoneAfter c e q high)
-    (same_place (event_of last) (event_of spot) process place) none
-
--- the greatest number of the process added
-pub most_added : (c : Computation) (spot : Spot) (values : List (Vec ℤ Global)) (n : ℕ) (row : Vec ℤ Global)
-    (old x : ℤ) → n < length values → row ≡ get_or values n row → IsMostUpTo values (CanHave c spot) n old
-    → HasMost c spot n row.items x → unsigned_abs x ≤ value_limit
-    → IsMostUpTo values (CanHave c spot) (n + 1) (old +ℤ x)
-most_added c spot values n row old x lt at before most small =
-    range_more c spot values n row most.range old x lt at before most.between most.greatest small
-
 -- what is reached in a row is small
 pub greatest_small : (c : Computation) (values : List (Vec ℤ Global)) (n : ℕ) (row : Vec ℤ Global) (low end : ℕ)
     (x : ℤ) → AreValues c values → n < length values → row ≡ get_or values n row → IsGreatest row.items low end x
@@ -160,55 +100,6 @@ pub greatest_small : (c : Computation) (values : List (Vec ℤ Global)) (n : ℕ
 greatest_small c values n row low end x are lt at is =
     subst (λ (z : ℤ). unsigned_abs z ≤ value_limit) (value_is values n is.count row lt at ∙ is.is)
     (are.small n is.count)
-
--- ---- at each spot
-
-pub none_added : (c : Computation) (spots : List Spot) (values : List (Vec ℤ Global)) (n : ℕ) (sums : List ℤ)
-    → AreMostUpTo c spots values n sums → HaveAdded c spots values n 0 sums
-none_added c spots values n sums are = record {
-  one_each = are.one_each;
-  done = λ j d lt. absurd (omega (arith, lt));
-  rest = λ j d le lt. are.each j d lt;
-}
-
-pub all_added : (c : Computation) (spots : List Spot) (values : List (Vec ℤ Global)) (n k : ℕ) (sums : List ℤ)
-    → HaveAdded c spots values n k sums → length spots ≤ k → AreMostUpTo c spots values (n + 1) sums
-all_added c spots values n k sums have all = record {
-  one_each = have.one_each;
-  each = λ j d lt. have.done j d (omega (arith, lt, all)) lt;
-}
-
-pub one_added : (c : Computation) (spots : List Spot) (values : List (Vec ℤ Global)) (n k : ℕ) (old new : List ℤ)
-    (x : ℤ) → k < length spots → HaveAdded c spots values n k old
-    → new ≡ set old k (get_or old k (pos 0) +ℤ x)
-    → ((d : Spot) → IsMostUpTo values (CanHave c (get_or spots k d)) (n + 1) (get_or old k (pos 0) +ℤ x))
-    → HaveAdded c spots values n (k + 1) new
-one_added c spots values n k old new x lt have made here = record {
-  one_each = ap length made ∙ length-set old k (get_or old k (pos 0) +ℤ x) ∙ have.one_each;
-  done = λ j d less within. done j d less within (cases_eq j k);
-  rest = λ j d le within.
-      subst (IsMostUpTo values (CanHave c (get_or spots j d)) n)
-      (sym (other j (λ same. omega (arith, same, le)))) (have.rest j d (omega (arith, le)) within);
-}
-  where
-    other : (j : ℕ) → j ≢ k → get_or new j (pos 0) ≡ get_or old j (pos 0)
-    other j apart =
-        ap (λ (xs : List ℤ). get_or xs j (pos 0)) made
-        ∙ get_or-set_other old k j (get_or old k (pos 0) +ℤ x) (pos 0) apart
-
-    same : get_or new k (pos 0) ≡ get_or old k (pos 0) +ℤ x
-    same =
-        ap (λ (xs : List ℤ). get_or xs k (pos 0)) made
-        ∙ get_or-set_same old k (get_or old k (pos 0) +ℤ x) (pos 0) (omega (arith, lt, have.one_each))
-
-    done : (j : ℕ) (d : Spot) → j < k + 1 → j < length spots → (j ≡ k) ⊎ (j ≡ k → ⊥)
-        → IsMostUpTo values (CanHave c (get_or spots j d)) (n + 1) (get_or new j (pos 0))
-    done j d less within (inr apart) =
-        subst (IsMostUpTo values (CanHave c (get_or spots j d)) (n + 1)) (sym (other j apart))
-        (have.done j d (omega (arith, less, apart)) within)
-    done j d less within (inl is) =
-        subst (λ (i : ℕ). IsMostUpTo values (CanHave c (get_or spots i d)) (n + 1) (get_or new i (pos 0))) (sym is)
-        (subst (IsMostUpTo values (CanHave c (get_or spots k d)) (n + 1)) (sym same) (here d))
 
 -- no process yet
 pub nothing_yet : (values : List (Vec ℤ Global)) (May : ℕ → ℕ → Type 0) → IsMostUpTo values May 0 (pos 0)
@@ -226,40 +117,166 @@ nothing_yet values May = record {
     none (row ∷ rows) [] many = refl
     none (row ∷ rows) (count ∷ other) many = absurd (omega (arith, many))
 
--- all processes
-pub most_of_all : (c : Computation) (spot : Spot) (values : List (Vec ℤ Global)) (x : ℤ) → HasNoCycle c
-    → IsEvent c (event_of spot) → length values ≡ length c → IsMostUpTo values (CanHave c spot) (length values) x
-    → IsMost (IsAt c spot) values x
-most_of_all c spot values x acyclic event one_each up_to = record {
-  counts = up_to.counts;
-  inside =
-      together c acyclic spot up_to.counts event (up_to.many ∙ one_each)
-      (λ q lt. up_to.each q (omega (arith, lt, one_each)));
-  is = up_to.is;
-  most = λ other at.
-      up_to.most other (length_at other at)
-      (λ q lt. apart c acyclic spot other event at q);
-}
-  where
-    length_at : (other : List ℕ) → IsAt c spot other → length other ≡ length values
-    length_at other at = (around c spot.after (event_of spot) other at).fits.one_each ∙ sym one_each
+-- the greatest in the range of the process added
+pub range_more : (values : List (Vec ℤ Global)) (ranges : List Range) (n : ℕ) (row : Vec ℤ Global) (d : Range)
+    (old x : ℤ) → n < length values → n < length ranges → row ≡ get_or values n row
+    → IsMostUpTo values (InRanges ranges) n old
+    → IsGreatest row.items (get_or ranges n d).low ((get_or ranges n d).high + 1) x → unsigned_abs x ≤ value_limit
+    → IsMostUpTo values (InRanges ranges) (n + 1) (old +ℤ x)
+range_more values ranges n row d old x lt there at before is small =
+    most_more values (InRanges ranges) n row (get_or ranges n d).low ((get_or ranges n d).high + 1) old x lt at before
+    is small
+    (λ count. (
+      λ within. λ e. subst (λ (r : Range). (r.low ≤ count) × (count ≤ r.high)) (get_or_default ranges n d e there)
+          (within.0, omega (arith, within.1)),
+      λ may. let w : ((get_or ranges n d).low ≤ count) × (count ≤ (get_or ranges n d).high) = may d in
+          (w.0, omega (arith, w.1)),
+    ))
 
-pub all_most : (c : Computation) (spots : List Spot) (values : List (Vec ℤ Global)) (sums : List ℤ) → HasNoCycle c
-    → AreThere c spots → length values ≡ length c → AreMostUpTo c spots values (length values) sums
-    → AreMost c spots values sums
-all_most c spots values sums acyclic there one_each are = record {
-  one_each = are.one_each;
-  each = λ k d lt.
-      most_of_all c (get_or spots k d) values (get_or sums k (pos 0)) acyclic (there k d lt) one_each
-      (are.each k d lt);
-}
+-- ---- one process at another count
 
-pub none_of_any : (c : Computation) (spots : List Spot) (values : List (Vec ℤ Global))
-    → AreMostUpTo c spots values 0 (replicate (length spots) (pos 0))
-none_of_any c spots values = record {
-  one_each = length-replicate (length spots) (pos 0);
-  each = λ k d lt.
-      subst (IsMostUpTo values (CanHave c (get_or spots k d)) 0)
-      (sym (get_or-replicate (length spots) k (pos 0) (pos 0) lt))
-      (nothing_yet values (CanHave c (get_or spots k d)));
-}
+sum_set : (values : List (Vec ℤ Global)) (counts : List ℕ) (p count : ℕ) → p < length values → p < length counts
+    → sum_at values (set counts p count)
+    ≡ sum_at values counts -ℤ value_of values p (get_or counts p 0) +ℤ value_of values p count
+sum_set [] counts p count lt there = absurd (omega (arith, lt))
+sum_set (row ∷ values) [] p count lt there = absurd (omega (arith, there))
+sum_set (row ∷ values) (first ∷ counts) zero count lt there = omega (arith, ints)
+sum_set (row ∷ values) (first ∷ counts) (suc p) count lt there =
+    let rest : sum_at values (set counts p count)
+    ≡ sum_at values counts -ℤ value_of values p (get_or counts p 0) +ℤ value_of values p count =
+    sum_set values counts p count (omega (arith, lt)) (omega (arith, there)) in
+    omega (arith, ints, rest)
+
+module _ (c : Computation) (acyclic : HasNoCycle c) (spot : Spot) (event : IsEvent c (event_of spot))
+    (values : List (Vec ℤ Global)) (one_each : length values ≡ length c) (ranges : List Range)
+    (has : HasBox c spot ranges) (x : ℤ) (most : IsMostUpTo values (InRanges ranges) (length values) x) where
+  abbrev p : ℕ
+  p = spot.place.process
+
+  inside : p < length c
+  inside = place_inside c (event_of spot) event
+
+  no_range : Range
+  no_range = record { low = 0; high = 0 }
+
+  -- the process of the spot is at 0 in the box
+  own_zero : (count : ℕ) → InRanges ranges p count → count ≡ 0
+  own_zero count may =
+      omega (arith, (may no_range).1, (has.each p no_range inside).own_high refl)
+
+  zero_own : InRanges ranges p 0
+  zero_own = λ d. (
+    (let e : (get_or ranges p d).low ≡ 0 = (has.each p d inside).own_low refl in omega (arith, e)),
+    (let e : (get_or ranges p d).high ≡ 0 = (has.each p d inside).own_high refl in omega (arith, e)),
+  )
+
+  -- the greatest counts of the others, and that of the process
+  abbrev counts : List ℕ
+  counts = set most.counts p (own_count spot)
+
+  many : length counts ≡ length c
+  many = length-set most.counts p (own_count spot) ∙ most.many ∙ one_each
+
+  at_spot : IsAt c spot counts
+  at_spot = together c acyclic spot counts event many (λ q lt. can q lt (cases_eq q p))
+    where
+      can : (q : ℕ) → q < length c → (q ≡ p) ⊎ (q ≡ p → ⊥) → CanHave c spot q (get_or counts q 0)
+      can q lt (inl same) = inl (
+        same,
+        ap (λ (i : ℕ). get_or counts i 0) same
+            ∙ get_or-set_same most.counts p (own_count spot) 0 (omega (arith, inside, most.many, one_each)),
+      )
+      can q lt (inr other) =
+          subst (CanHave c spot q) (sym (get_or-set_other most.counts p q (own_count spot) 0 other))
+          ((((has.each q no_range lt).other other).each (get_or most.counts q 0)).0
+          (most.each q (omega (arith, lt, one_each)) no_range))
+
+  sum_is : sum_at values counts ≡ x -ℤ value_of values p 0 +ℤ value_of values p (own_count spot)
+  sum_is =
+      let e : sum_at values counts
+      ≡ sum_at values most.counts -ℤ value_of values p (get_or most.counts p 0) +ℤ value_of values p (own_count spot) =
+      sum_set values most.counts p (own_count spot) (omega (arith, inside, one_each))
+      (omega (arith, inside, most.many, one_each)) in
+      let f : value_of values p (get_or most.counts p 0) ≡ value_of values p 0 =
+      ap (value_of values p)
+      (own_zero (get_or most.counts p 0) (most.each p (omega (arith, inside, one_each)))) in
+      omega (arith, ints, e, f, most.is)
+
+  none_more : (other : List ℕ) → IsAt c spot other
+      → sum_at values other ≤ℤ (x -ℤ value_of values p 0 +ℤ value_of values p (own_count spot))
+  none_more other at =
+      let fits : length other ≡ length c = (around c spot.after (event_of spot) other at).fits.one_each in
+      let e : sum_at values (set other p 0)
+      ≡ sum_at values other -ℤ value_of values p (get_or other p 0) +ℤ value_of values p 0 =
+      sum_set values other p 0 (omega (arith, inside, one_each)) (omega (arith, inside, fits)) in
+      let f : value_of values p (get_or other p 0) ≡ value_of values p (own_count spot) =
+      ap (value_of values p) (own_of (apart c acyclic spot other event at p)) in
+      let le : sum_at values (set other p 0) ≤ℤ x =
+      most.most (set other p 0) (length-set other p 0 ∙ fits ∙ sym one_each)
+      (λ q lt. may q (omega (arith, lt, one_each)) (cases_eq q p)) in
+      omega (arith, ints, e, f, le)
+    where
+      own_of : CanHave c spot p (get_or other p 0) → get_or other p 0 ≡ own_count spot
+      own_of (inl (same, is)) = is
+      own_of (inr (other_one, is)) = absurd (other_one refl)
+
+      may : (q : ℕ) → q < length c → (q ≡ p) ⊎ (q ≡ p → ⊥) → InRanges ranges q (get_or (set other p 0) q 0)
+      may q lt (inl same) =
+          subst (λ (i : ℕ). InRanges ranges i (get_or (set other p 0) i 0)) (sym same)
+          (subst (InRanges ranges p)
+          (sym (get_or-set_same other p 0 0
+          (omega (arith, inside, (around c spot.after (event_of spot) other at).fits.one_each)))) zero_own)
+      may q lt (inr apart_from) =
+          subst (InRanges ranges q) (sym (get_or-set_other other p q 0 0 apart_from))
+          (λ d. (((has.each q d lt).other apart_from).each (get_or other q 0)).1 (apart c acyclic spot other event at q))
+
+  -- the greatest sum at a spot by that of its box
+  pub most_with_own : IsMost (IsAt c spot) values (x -ℤ value_of values p 0 +ℤ value_of values p (own_count spot))
+  most_with_own = record { counts = counts; inside = at_spot; is = sum_is; most = none_more }
+
+-- ---- at each spot
+
+some_of : {A : Type 0} (xs : List A) → 0 < length xs → A
+some_of [] lt = absurd (omega (arith, lt))
+some_of (x ∷ xs) lt = x
+
+module _ (c : Computation) (acyclic : HasNoCycle c) (spots : List Spot) (there : AreThere c spots)
+    (boxes : List (Vec Range Global)) (numbers : List ℕ) (have : HaveBoxes c spots (length spots) boxes numbers)
+    (values : List (Vec ℤ Global)) (are : AreValues c values) (sums : List ℤ) (of : AreBoxSums boxes values sums)
+    (k : ℕ) (d : Spot) (lt : k < length spots) (x : ℤ) (is : x ≡ get_or sums (get_or numbers k 0) (pos 0)) where
+  abbrev here : Vec Range Global
+  here = some_of boxes (let n : get_or numbers k 0 < length boxes = have.there k lt in omega (arith, n))
+
+  of_box : IsMostUpTo values (InRanges (get_or boxes (get_or numbers k 0) here).items) (length values) x
+  of_box =
+      subst
+      (IsMostUpTo values (InRanges (get_or boxes (get_or numbers k 0) here).items) (length values)) (sym is)
+      (of.each (get_or numbers k 0) here (have.there k lt))
+
+  pub small_at_spot : unsigned_abs x ≤ length values * value_limit
+  small_at_spot = of_box.small
+
+  pub most_at_spot : (row : Vec ℤ Global) → row ≡ get_or values (get_or spots k d).place.process row
+      → IsMost (IsAt c (get_or spots k d)) values
+      (x -ℤ number_at row.items 0 +ℤ number_at row.items (own_count (get_or spots k d)))
+  most_at_spot row at =
+      subst (λ (t : ℤ × ℤ). IsMost (IsAt c (get_or spots k d)) values (x -ℤ t.0 +ℤ t.1))
+      (λ i. (
+        value_is values (get_or spots k d).place.process 0 row inside at i,
+        value_is values (get_or spots k d).place.process (own_count (get_or spots k d)) row inside at i,
+      ))
+      (most_with_own c acyclic (get_or spots k d) (there k d lt) values are.one_each
+      (get_or boxes (get_or numbers k 0) here).items (have.each k d here lt) x of_box)
+    where
+      inside : (get_or spots k d).place.process < length values
+      inside =
+          let n : (get_or spots k d).place.process < length c =
+          place_inside c (event_of (get_or spots k d)) (there k d lt) in
+          omega (arith, n, are.one_each)
+
+-- what a row has is small
+pub row_small : (c : Computation) (values : List (Vec ℤ Global)) (p count : ℕ) (row : Vec ℤ Global)
+    → AreValues c values → p < length values → row ≡ get_or values p row
+    → unsigned_abs (number_at row.items count) ≤ value_limit
+row_small c values p count row are lt at =
+    subst (λ (z : ℤ). unsigned_abs z ≤ value_limit) (value_is values p count row lt at) (are.small p count)

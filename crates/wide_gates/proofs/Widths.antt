@@ -1,6 +1,6 @@
 -- The greatest of two stretches of counts, one after the other or over each other.
 use Rattle.std.proofs.Common.{suc, ◌≡◌, inl, inr, ◌⊎◌, ℕ, ◌+◌, ◌*◌, ◌^◌, ◌<◌, ◌≤◌, Bool, true, false, cond, List, [], ◌∷◌, ◌++◌, length, get_or, ℤ, pos, ◌≤ℤ◌, refl, sym, ap, ◌∙◌, subst, arith}
-use Rattle.std.proofs.lemmas.Bool.{cases_lt}
+use Rattle.std.proofs.lemmas.Bool.{both_ways, cases_lt}
 use Rattle.std.proofs.lemmas.Int.{ints}
 use Rattle.std.proofs.Math.Nat.{pow-suc}
 use Rattle.std.proofs.Math.Pow.{pow_mono}
@@ -9,7 +9,7 @@ use Rattle.std.specs.Int.{int_max}
 use Rattle.std.specs.Prelude.{Vec, int_lt}
 use Rattle.std.specs.Global.{Global}
 use Rattle.wide_gates.proofs.Pushes.{each_push}
-use Rattle.wide_gates.specs.Tables.{HasWidth, IsGreatest, IsTable}
+use Rattle.wide_gates.specs.Tables.{HasWidth, IsGreatest, IsRising, IsTable}
 use Rattle.wide_slice.specs.Values.{number_at}
 use Rattle.wide_gates.specs.declared.table.Table.{Table}
 
@@ -93,20 +93,64 @@ width_more width levels new level is made =
     let f : 2 ^ (length levels + 1) ≡ 2 ^ length levels + 2 ^ length levels = power_more (length levels) in
     omega (arith, is, e, f)
 
+-- ---- rows that never fall
+
+pub rising_more : (row : List ℤ) (n : ℕ) → IsRising row n → number_at row n ≤ℤ number_at row (n + 1)
+    → IsRising row (n + 1)
+rising_more row n rising next m k le up = go (cases_lt k (n + 1)) (cases_lt m (n + 1))
+  where
+    go : (k < n + 1) ⊎ (n + 1 ≤ k) → (m < n + 1) ⊎ (n + 1 ≤ m) → number_at row m ≤ℤ number_at row k
+    go (inl less) other = rising m k le (omega (arith, less))
+    go (inr more) (inl less) =
+        let same : k ≡ n + 1 = omega (arith, more, up) in
+        let low : number_at row m ≤ℤ number_at row n = rising m n (omega (arith, less)) (omega arith) in
+        let at : number_at row k ≡ number_at row (n + 1) = ap (number_at row) same in
+        omega (arith, ints, low, next, at)
+    go (inr more) (inr above) =
+        let same : number_at row m ≡ number_at row k =
+        ap (number_at row) (let e : m ≡ k = omega (arith, more, up, above, le) in e) in
+        omega (arith, ints, same)
+
+pub rising_none : (row : List ℤ) → IsRising row 0
+rising_none row m k le up =
+    let same : number_at row m ≡ number_at row k =
+    ap (number_at row) (let e : m ≡ k = omega (arith, le, up) in e) in
+    omega (arith, ints, same)
+
+pub greatest_rising : (row : List ℤ) (events low high : ℕ) (x : ℤ) → IsRising row events → low ≤ high → high ≤ events
+    → x ≡ number_at row high → IsGreatest row low (high + 1) x
+greatest_rising row events low high x rising ordered within is = record {
+  count = high;
+  from = ordered;
+  up_to = omega arith;
+  is = sym is;
+  most = λ other from up_to.
+      subst (λ (z : ℤ). number_at row other ≤ℤ z) (sym is) (rising other high (omega (arith, up_to)) within);
+}
+
+pub table_rising : (row : List ℤ) (events : ℕ) (table : Table) → table.rises ≡ true → IsRising row events
+    → IsTable row events table
+table_rising row events table is rising = record {
+  rising = λ _. rising;
+  some = λ falls. absurd (both_ways table.rises falls is);
+  each = λ falls. absurd (both_ways table.rises falls is);
+}
+
 -- the last level is as wide as half of the counts, or wider
-pub table_whole : (row : List ℤ) (n width : ℕ) (levels new : List (Vec ℤ Global)) (level : Vec ℤ Global)
-    (table : Table) → table.levels.items ≡ new → width ≡ 2 ^ length levels → HasWidth row n width level.items
+pub table_whole : (row : List ℤ) (events width : ℕ) (levels new : List (Vec ℤ Global)) (level : Vec ℤ Global)
+    (table : Table) → table.rises ≡ false → table.levels.items ≡ new → width ≡ 2 ^ length levels → HasWidth row (events + 1) width level.items
     → new ≡ levels ++ level ∷ [] → length level.items ≤ width
-    → ((k : ℕ) (d : Vec ℤ Global) → k < length levels → HasWidth row n (2 ^ k) (get_or levels k d).items)
-    → IsTable row n table
-table_whole row n width levels new level table are is here made wide each = record {
-  some = λ k up. some k up (cases_lt k (length new));
-  each = λ k d up. subst (λ (xs : List (Vec ℤ Global)). HasWidth row n (2 ^ k) (get_or xs k d).items) (sym are)
-      (levels_more row n width levels new level is here made each k d
+    → ((k : ℕ) (d : Vec ℤ Global) → k < length levels → HasWidth row (events + 1) (2 ^ k) (get_or levels k d).items)
+    → IsTable row events table
+table_whole row events width levels new level table falls are is here made wide each = record {
+  rising = λ yes. absurd (both_ways table.rises falls yes);
+  some = λ _ k up. some k up (cases_lt k (length new));
+  each = λ _ k d up. subst (λ (xs : List (Vec ℤ Global)). HasWidth row (events + 1) (2 ^ k) (get_or xs k d).items) (sym are)
+      (levels_more row (events + 1) width levels new level is here made each k d
       (subst (λ (xs : List (Vec ℤ Global)). k < length xs) are (some k up (cases_lt k (length new)))));
 }
   where
-    some : (k : ℕ) → 2 ^ k ≤ n → (k < length new) ⊎ (length new ≤ k) → k < length table.levels.items
+    some : (k : ℕ) → 2 ^ k ≤ events + 1 → (k < length new) ⊎ (length new ≤ k) → k < length table.levels.items
     some k up (inl lt) = subst (λ (xs : List (Vec ℤ Global)). k < length xs) (sym are) lt
     some k up (inr le) =
         let e : width * 2 ≡ 2 ^ length new = width_more width levels new level is made in

@@ -1,9 +1,11 @@
 -- The greatest sums of rows at a spot.
-use Rattle.std.specs.Prelude.{◌≡◌, ℕ, ◌+◌, ◌*◌, ◌<◌, ◌≤◌, List, length, ℤ, ◌≤ℤ◌, pos, slice_index, slice_index_or, unsigned_abs, Vec}
+use Rattle.std.specs.Prelude.{◌≡◌, ℕ, ◌*◌, ◌<◌, ◌≤◌, List, length, ℤ, ◌≤ℤ◌, pos, slice_index, slice_index_or, unsigned_abs, Vec}
 use Rattle.std.specs.Global.{Global}
 use Rattle.def_model.specs.Events.{Computation}
 use Rattle.wide_slice.specs.Values.{sum_at, value_limit}
-use Rattle.wide_gates.specs.Spots.{CanHave, IsAt}
+use Rattle.wide_gates.specs.Ranges.{InRanges}
+use Rattle.wide_gates.specs.Spots.{IsAt}
+use Rattle.wide_gates.specs.declared.range.Range.{Range}
 use Rattle.wide_gates.specs.declared.spot.Spot.{Spot}
 
 -- the greatest sum over the first n processes, each of which has a count that it may have by itself
@@ -16,21 +18,11 @@ pub record IsMostUpTo (values : List (Vec ℤ Global)) (May : ℕ → ℕ → Ty
       → sum_at values other ≤ℤ x
   pub small : unsigned_abs x ≤ n * value_limit
 
--- at each spot
-pub record AreMostUpTo (c : Computation) (spots : List Spot) (values : List (Vec ℤ Global)) (n : ℕ) (sums : List ℤ)
-    : Type 0 where
-  pub one_each : length sums ≡ length spots
-  pub each : (k : ℕ) (d : Spot) → k < length spots
-      → IsMostUpTo values (CanHave c (slice_index_or spots k d)) n (slice_index_or sums k (pos 0))
-
--- one process more at the spots before this one
-pub record HaveAdded (c : Computation) (spots : List Spot) (values : List (Vec ℤ Global)) (n k : ℕ) (sums : List ℤ)
-    : Type 0 where
-  pub one_each : length sums ≡ length spots
-  pub done : (j : ℕ) (d : Spot) → j < k → j < length spots
-      → IsMostUpTo values (CanHave c (slice_index_or spots j d)) (n + 1) (slice_index_or sums j (pos 0))
-  pub rest : (j : ℕ) (d : Spot) → k ≤ j → j < length spots
-      → IsMostUpTo values (CanHave c (slice_index_or spots j d)) n (slice_index_or sums j (pos 0))
+-- the greatest sum over the counts of each box
+pub record AreBoxSums (boxes : List (Vec Range Global)) (values : List (Vec ℤ Global)) (sums : List ℤ) : Type 0 where
+  pub one_each : length sums ≡ length boxes
+  pub each : (i : ℕ) (b : Vec Range Global) → i < length boxes
+      → IsMostUpTo values (InRanges (slice_index_or boxes i b).items) (length values) (slice_index_or sums i (pos 0))
 
 -- the greatest sum over the counts of a set
 pub record IsMost (InSet : List ℕ → Type 0) (values : List (Vec ℤ Global)) (x : ℤ) : Type 0 where

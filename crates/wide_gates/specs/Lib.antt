@@ -3,7 +3,7 @@ pub mod Spots
 pub mod Highs
 pub mod Ranges
 pub mod Tables
-pub mod Most
+pub mod Boxes
 pub mod Greatest
 pub mod Levels
 pub mod Excluded

@@ -1,6 +1,7 @@
 -- The greatest numbers of a row between two counts.
-use Rattle.std.specs.Prelude.{◌≡◌, ℕ, ◌+◌, ◌<◌, ◌≤◌, ◌^◌, List, length, ℤ, pos, ◌≤ℤ◌, slice_index_or, Vec}
+use Rattle.std.specs.Prelude.{◌≡◌, ℕ, ◌+◌, ◌<◌, ◌≤◌, ◌^◌, true, false, List, length, ℤ, pos, ◌≤ℤ◌, slice_index_or, Vec}
 use Rattle.std.specs.Global.{Global}
+use Rattle.def_model.specs.Events.{Computation, event_count}
 use Rattle.wide_slice.specs.Values.{number_at}
 use Rattle.wide_gates.specs.declared.table.Table.{Table}
 
@@ -17,8 +18,19 @@ pub record HasWidth (row : List ℤ) (n width : ℕ) (level : List ℤ) : Type 0
   pub many : length level + width ≡ n + 1
   pub each : (k : ℕ) → k + width ≤ n → IsGreatest row k (k + width) (slice_index_or level k (pos 0))
 
--- for each power of 2
-pub record IsTable (row : List ℤ) (n : ℕ) (table : Table) : Type 0 where
-  pub some : (k : ℕ) → 2 ^ k ≤ n → k < length table.levels.items
-  pub each : (k : ℕ) (d : Vec ℤ Global) → 2 ^ k ≤ n
-      → HasWidth row n (2 ^ k) (slice_index_or table.levels.items k d).items
+-- no event makes its number less
+abbrev pub IsRising : List ℤ → ℕ → Type 0
+IsRising row events = (m n : ℕ) → m ≤ n → n ≤ events → number_at row m ≤ℤ number_at row n
+
+-- for each power of 2, unless the row never falls
+pub record IsTable (row : List ℤ) (events : ℕ) (table : Table) : Type 0 where
+  pub rising : table.rises ≡ true → IsRising row events
+  pub some : table.rises ≡ false → (k : ℕ) → 2 ^ k ≤ events + 1 → k < length table.levels.items
+  pub each : table.rises ≡ false → (k : ℕ) (d : Vec ℤ Global) → 2 ^ k ≤ events + 1
+      → HasWidth row (events + 1) (2 ^ k) (slice_index_or table.levels.items k d).items
+
+-- of each row
+pub record AreTables (c : Computation) (values : List (Vec ℤ Global)) (tables : List Table) : Type 0 where
+  pub one_each : length tables ≡ length values
+  pub each : (q : ℕ) (row : Vec ℤ Global) (table : Table) → q < length values
+      → IsTable (slice_index_or values q row).items (event_count c q) (slice_index_or tables q table)

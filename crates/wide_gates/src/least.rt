@@ -4,6 +4,7 @@ ghost use Rattle.pd_pred.specs.Trees.{tree_view};
 ghost use Rattle.wide_gates.specs.Least.{IsLeastFlagged, NoneFlagged, lesser_of};
 ghost use Rattle.std.specs.Prelude.{◌≡◌, ℕ, IfOk, MatchOption, length};
 
+use super::boxes::all_boxes;
 use super::levels::levels_at;
 use super::spot::all_spots;
 use super::sure::sure_at;
@@ -59,7 +60,8 @@ pub fn least_gate(
         return Ok(None);
     }
     let spots = all_spots(alloc, computation)?;
-    let sure = sure_at(alloc, computation, &spots, tree)?;
-    let levels = levels_at(alloc, computation, &spots)?;
+    let boxes = all_boxes(alloc, computation, &spots)?;
+    let sure = sure_at(alloc, computation, &spots, &boxes, tree)?;
+    let levels = levels_at(alloc, computation, &spots, &boxes)?;
     Ok(least_flagged(&levels, &sure.yes))
 }

@@ -1,10 +1,12 @@
 //! The greatest number of events right before and right after each event.
 ghost use Rattle.def_format.specs.Limits.{event_limit};
+ghost use Rattle.wide_gates.specs.Boxes.{HaveBoxes};
 ghost use Rattle.wide_gates.specs.Levels.{AreCounts, AreLevelNumbers, AreLevels, AreSame, IsCountRow};
 ghost use Rattle.wide_gates.specs.Spots.{AreThere};
 ghost use Rattle.wide_slice.specs.Values.{AreValues};
-ghost use Rattle.std.specs.Prelude.{◌≤◌, IfOk};
+ghost use Rattle.std.specs.Prelude.{◌≤◌, IfOk, length};
 
+use super::boxes::Boxes;
 use super::greatest::greatest_sums;
 use super::spot::Spot;
 use pd_clock::Computation;
@@ -56,14 +58,17 @@ pub(crate) fn levels_at(
     alloc: Global,
     computation: &Computation<'_>,
     spots: &[Spot],
+    boxes: &Boxes,
 ) -> Result<Vec<u64>, AllocError>
-    requires { AreThere computation.now.events spots.now }
+    requires spots { AreThere computation.now.events spots.now }
+    requires boxes { HaveBoxes computation.now.events spots.now (length spots.now) boxes.now.boxes.items
+        boxes.now.numbers.items }
     ensures { IfOk result (λ levels. AreLevels computation.now.events spots.now levels.items) }
 {
     computation.limits();
     computation.total();
     let rows = count_rows(alloc, computation)?;
-    let sums = greatest_sums(alloc, computation, spots, &rows)?;
+    let sums = greatest_sums(alloc, computation, spots, boxes, &rows)?;
     let levels = naturals(alloc, &sums)?;
     Ok(levels)
 }

@@ -7,9 +7,9 @@
 //!
 //! - `spot`: right before or right after each event
 //! - `high`: how many events of a process come before all that an event happened before
-//! - `range`: which counts a process may have right before or right after an event
+//! - `range`: which counts a process may have around an event
+//! - `boxes`: the ranges of the processes around each event
 //! - `table`: the greatest number of a row between two counts
-//! - `most`: the greatest number that a process adds right before or right after an event
 //! - `greatest`: the greatest sum of rows right before and right after each event
 //! - `levels`: the greatest number of events there
 //! - `excluded`: which comparisons are excluded by the greatest excess
@@ -17,13 +17,13 @@
 //! - `least`: the least level at which it surely holds
 #![tactic(auto)]
 
+mod boxes;
 mod excluded;
 mod flags;
 mod greatest;
 mod high;
 mod least;
 mod levels;
-mod most;
 mod range;
 mod spot;
 mod sure;

@@ -2,11 +2,13 @@
 ghost use Rattle.def_wide.specs.Sums.{NameBelow, NamesNoOther};
 ghost use Rattle.def_model.specs.Predicates.{And, Compare, Or};
 ghost use Rattle.pd_pred.specs.Trees.{comparison_view, sum_view, tree_view};
+ghost use Rattle.wide_gates.specs.Boxes.{HaveBoxes};
 ghost use Rattle.wide_gates.specs.Excluded.{AreMostExcess, ExcludedBy};
 ghost use Rattle.wide_gates.specs.Spots.{AreThere};
 ghost use Rattle.wide_gates.specs.Sure.{AreExcluded, AreSure, IsAnd, IsOr};
 ghost use Rattle.std.specs.Prelude.{◌≡◌, IfOk, length};
 
+use super::boxes::Boxes;
 use super::excluded::{is_excluded, opposite_of};
 use super::flags::{all, both, either};
 use super::greatest::greatest_sums;
@@ -28,17 +30,20 @@ fn greatest_excess(
     alloc: Global,
     computation: &Computation<'_>,
     spots: &[Spot],
+    boxes: &Boxes,
     left: &Sum,
     right: &Sum,
 ) -> Result<Vec<i128>, AllocError>
     requires spots { AreThere computation.now.events spots.now }
+    requires boxes { HaveBoxes computation.now.events spots.now (length spots.now) boxes.now.boxes.items
+        boxes.now.numbers.items }
     requires left { NameBelow (length computation.now.events) (sum_view left.now) }
     requires right { NameBelow (length computation.now.events) (sum_view right.now) }
     ensures { IfOk result (λ sums. AreMostExcess computation.now spots.now (sum_view left.now) (sum_view right.now)
         sums.items) }
 {
     let values = values_of(alloc, computation, left, right)?;
-    let sums = greatest_sums(alloc, computation, spots, &values)?;
+    let sums = greatest_sums(alloc, computation, spots, boxes, &values)?;
     Ok(sums)
 }
 
@@ -64,18 +69,21 @@ fn sure_comparison(
     alloc: Global,
     computation: &Computation<'_>,
     spots: &[Spot],
+    boxes: &Boxes,
     left: &Sum,
     comparison: Comparison,
     right: &Sum,
 ) -> Result<Sure, AllocError>
     requires spots { AreThere computation.now.events spots.now }
+    requires boxes { HaveBoxes computation.now.events spots.now (length spots.now) boxes.now.boxes.items
+        boxes.now.numbers.items }
     requires left { NameBelow (length computation.now.events) (sum_view left.now) }
     requires right { NameBelow (length computation.now.events) (sum_view right.now) }
     ensures { IfOk result (AreSure computation.now spots.now
         (Compare (sum_view left.now) (comparison_view comparison) (sum_view right.now))) }
 {
-    let above = greatest_excess(alloc, computation, spots, left, right)?;
-    let below = greatest_excess(alloc, computation, spots, right, left)?;
+    let above = greatest_excess(alloc, computation, spots, boxes, left, right)?;
+    let below = greatest_excess(alloc, computation, spots, boxes, right, left)?;
     let yes = where_excluded(alloc, opposite_of(comparison), &above, &below)?;
     let no = where_excluded(alloc, comparison, &above, &below)?;
     Ok(Sure { yes, no })
@@ -111,9 +119,12 @@ pub(crate) fn sure_at(
     alloc: Global,
     computation: &Computation<'_>,
     spots: &[Spot],
+    boxes: &Boxes,
     tree: &Tree,
 ) -> Result<Sure, AllocError>
     requires spots { AreThere computation.now.events spots.now }
+    requires boxes { HaveBoxes computation.now.events spots.now (length spots.now) boxes.now.boxes.items
+        boxes.now.numbers.items }
     requires names { NamesNoOther (length computation.now.events) (tree_view tree.now) }
     ensures { IfOk result (AreSure computation.now spots.now (tree_view tree.now)) }
 {
@@ -130,19 +141,19 @@ pub(crate) fn sure_at(
             left,
             comparison,
             right,
-        } => Ok(sure_comparison(alloc, computation, spots, left, *comparison, right)?),
+        } => Ok(sure_comparison(alloc, computation, spots, boxes, left, *comparison, right)?),
         Tree::Not(inner) => {
-            let Sure { yes, no } = sure_at(alloc, computation, spots, inner)?;
+            let Sure { yes, no } = sure_at(alloc, computation, spots, boxes, inner)?;
             Ok(Sure { yes: no, no: yes })
         }
         Tree::And(left, right) => {
-            let first = sure_at(alloc, computation, spots, left)?;
-            let second = sure_at(alloc, computation, spots, right)?;
+            let first = sure_at(alloc, computation, spots, boxes, left)?;
+            let second = sure_at(alloc, computation, spots, boxes, right)?;
             Ok(sure_and(alloc, &first, &second)?)
         }
         Tree::Or(left, right) => {
-            let first = sure_at(alloc, computation, spots, left)?;
-            let second = sure_at(alloc, computation, spots, right)?;
+            let first = sure_at(alloc, computation, spots, boxes, left)?;
+            let second = sure_at(alloc, computation, spots, boxes, right)?;
             Ok(sure_or(alloc, &first, &second)?)
         }
     }

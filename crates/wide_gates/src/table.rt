@@ -2,25 +2,39 @@
 //! that are powers of 2 long.
 //!
 //! Source: Bender and Farach-Colton, The LCA Problem Revisited, 2000.
-ghost use Rattle.wide_gates.specs.Tables.{HasWidth, IsGreatest, IsTable};
+ghost use Rattle.wide_gates.specs.Tables.{HasWidth, IsGreatest, IsRising, IsTable};
 ghost use Rattle.wide_slice.specs.Values.{number_at};
 ghost use Rattle.def_format.specs.Limits.{event_limit};
 ghost use Rattle.std.specs.Int.{int_max};
-ghost use Rattle.std.specs.Prelude.{◌≡◌, ◌+◌, ◌<◌, ◌≤◌, ◌^◌, IfOk, ℕ, List, ℤ, length};
+ghost use Rattle.std.specs.Prelude.{◌≡◌, ◌+◌, ◌<◌, ◌≤◌, ◌^◌, IfOk, IsTrue, ℕ, List, ℤ, length};
 
 use std::alloc::{AllocError, Global};
 
-/// The greatest number among 1, 2, 4, 8 and so on counts from each one on.
+/// The greatest number among 1, 2, 4, 8 and so on counts from each one on. Of a row that never falls there is none: its
+/// greatest number between two counts is that at the last of them.
 #[derive(Drop)]
 pub(crate) struct Table {
+    rises: bool,
     levels: Vec<Vec<i128>>,
 }
 
 /// The number of a row at a count, and 0 past its end.
-fn number(row: &[i128], count: u64) -> i128
+pub(crate) fn number(row: &[i128], count: u64) -> i128
     ensures { result ≡ number_at row.now count }
 {
     row.get(count as usize).copied().unwrap_or(0)
+}
+
+/// Whether no event makes the number of the row less.
+fn is_rising(row: &[i128], events: u64) -> bool
+    ensures { IsTrue result → IsRising row.now events }
+{
+    for count in 0..events {
+        if number(row, count + 1) < number(row, count) {
+            return false;
+        }
+    }
+    true
 }
 
 /// The greater of two numbers.
@@ -69,9 +83,15 @@ impl Table {
     /// An allocation was refused.
     pub(crate) fn new(alloc: Global, row: &[i128], events: u64) -> Result<Table, AllocError>
         requires { events ≤ event_limit }
-        ensures { IfOk result (IsTable row.now (events + 1)) }
+        ensures { IfOk result (IsTable row.now events) }
     {
         let mut levels = Vec::new(alloc);
+        if is_rising(row, events) {
+            return Ok(Table {
+                rises: true,
+                levels,
+            });
+        }
         let mut level = first_level(alloc, row, events + 1)?;
         let mut width = 1;
         while width < level.len() {
@@ -81,18 +101,23 @@ impl Table {
             width *= 2;
         }
         levels.push(level)?;
-        Ok(Table { levels })
+        Ok(Table {
+            rises: false,
+            levels,
+        })
     }
 
-    /// The greatest number of the row from one count to another, that one included. The row is there for the contract
-    /// alone.
-    pub(crate) fn greatest(&self, _row: &[i128], events: u64, low: u64, high: u64) -> i128
-        requires table { IsTable _row.now (events + 1) self.now }
+    /// The greatest number of the row from one count to another, that one included.
+    pub(crate) fn greatest(&self, row: &[i128], events: u64, low: u64, high: u64) -> i128
+        requires table { IsTable row.now events self.now }
         requires ordered { low ≤ high }
         requires within { high ≤ events }
         requires few { events ≤ event_limit }
-        ensures { IsGreatest _row.now low (high + 1) result }
+        ensures { IsGreatest row.now low (high + 1) result }
     {
+        if self.rises {
+            return number(row, high);
+        }
         let k = (high + 1 - low).ilog2();
         let last = high + 1 - power(k);
         at_level(&self.levels[k as usize], low, last)

@@ -19,13 +19,13 @@ returns c =
     c.in_ok-sure.sure.yes.items c.in_ok-levels.levels.items c.in_ok-spots.ensures
     (subst
     (λ (spots : List Spot). AreWhere true c.args.computation.now spots (tree_view c.args.tree.now)
-    c.in_ok-sure.sure.yes.items) c.deref.ensures.value c.in_ok-sure.ensures.holds)
+    c.in_ok-sure.sure.yes.items) c.deref-2.ensures.value c.in_ok-sure.ensures.holds)
     (subst (λ (spots : List Spot). AreLevels c.args.computation.now.events spots c.in_ok-levels.levels.items)
-    c.deref-2.ensures.value c.in_ok-levels.ensures) none
+    c.deref-3.ensures.value c.in_ok-levels.ensures) none
     (subst (λ (n : ℕ). NamesNoOther n (tree_view c.args.tree.now)) c.processes.ensures
     (c.names_no_other.ensures.0 c.if-not-names_no_other.false))
     c.least_flagged.result
     (subst
     (λ (t : List ℕ × List Bool). MatchOption c.least_flagged.result (NoneFlagged t.1 (length t.1))
-    (IsLeastFlagged t.0 t.1 (length t.1))) (λ i. (c.deref-3.ensures.value i, c.deref-4.ensures.value i))
+    (IsLeastFlagged t.0 t.1 (length t.1))) (λ i. (c.deref-4.ensures.value i, c.deref-5.ensures.value i))
     c.least_flagged.ensures)

@@ -9,7 +9,7 @@ use Rattle.wide_gates.proofs.table.Table.greatest.Goals as goal
 
 pub returns : goal.returns
 returns c =
-    let row = c.args._row.now in
+    let row = c.args.row.now in
     let n : ℕ = c.args.events + 1 in
     let k : ℕ = c.ilog2-k.result in
     let least : 2 ^ k ≤ c.args.high + 1 - c.args.low = c.ilog2-k.ensures.power_le in
@@ -18,7 +18,7 @@ returns c =
     let has : HasWidth row n (2 ^ k) c.deref.result.now =
     subst (HasWidth row n (2 ^ k)) (sym c.deref.ensures.value)
     (subst (λ (v : Vec ℤ Global). HasWidth row n (2 ^ k) v.items) (sym c.index.ensures)
-    (c.requires.table.each k c.index.result.now (omega (arith, least, c.requires.within)))) in
+    (c.requires.table.each c.if-self.false k c.index.result.now (omega (arith, least, c.requires.within)))) in
     let ordered : c.args.low ≤ c.args.high + 1 - c.power.result = omega (arith, least, width, c.requires.ordered) in
     let near : c.args.high + 1 - c.power.result ≤ c.args.low + 2 ^ k = omega (arith, most, width) in
     let end : c.args.high + 1 - c.power.result + 2 ^ k ≡ c.args.high + 1 = omega (arith, least, width) in

@@ -45,7 +45,7 @@ loop-width-preserved c =
 
 pub returns : goal.returns
 returns c =
-    table_whole c.args.row.now (c.args.events + 1) c.loop-width.width c.loop-width.levels.items
-    c.push-2.new.self.items c.loop-width.level _ refl c.loop-width.invariant.width_is
+    table_whole c.args.row.now c.args.events c.loop-width.width c.loop-width.levels.items
+    c.push-2.new.self.items c.loop-width.level _ refl refl c.loop-width.invariant.width_is
     c.loop-width.invariant.here c.in_ok-push-2.ensures.items
     (omega (arith, c.loop-width-test.false, c.len.ensures)) c.loop-width.invariant.each
