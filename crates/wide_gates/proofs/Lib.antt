@@ -2,6 +2,7 @@
 mod Pushes
 mod Beside
 mod Sharing
+mod Unnamed
 mod Widths
 mod Products
 mod Counting

@@ -228,7 +228,8 @@ module _ (c : Computation) (acyclic : HasNoCycle c) (spot : Spot) (event : IsEve
           (omega (arith, inside, (around c spot.after (event_of spot) other at).fits.one_each)))) zero_own)
       may q lt (inr apart_from) =
           subst (InRanges ranges q) (sym (get_or-set_other other p q 0 0 apart_from))
-          (λ d. (((has.each q d lt).other apart_from).each (get_or other q 0)).1 (apart c acyclic spot other event at q))
+          (λ d. (((has.each q d lt).other apart_from).each (get_or other q 0)).1
+          (apart c acyclic spot other event at q))
 
   -- the greatest sum at a spot by that of its box
   pub most_with_own : IsMost (IsAt c spot) values (x -ℤ value_of values p 0 +ℤ value_of values p (own_count spot))

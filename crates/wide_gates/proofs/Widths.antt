@@ -138,14 +138,15 @@ table_rising row events table is rising = record {
 
 -- the last level is as wide as half of the counts, or wider
 pub table_whole : (row : List ℤ) (events width : ℕ) (levels new : List (Vec ℤ Global)) (level : Vec ℤ Global)
-    (table : Table) → table.rises ≡ false → table.levels.items ≡ new → width ≡ 2 ^ length levels → HasWidth row (events + 1) width level.items
-    → new ≡ levels ++ level ∷ [] → length level.items ≤ width
+    (table : Table) → table.rises ≡ false → table.levels.items ≡ new → width ≡ 2 ^ length levels
+    → HasWidth row (events + 1) width level.items → new ≡ levels ++ level ∷ [] → length level.items ≤ width
     → ((k : ℕ) (d : Vec ℤ Global) → k < length levels → HasWidth row (events + 1) (2 ^ k) (get_or levels k d).items)
     → IsTable row events table
 table_whole row events width levels new level table falls are is here made wide each = record {
   rising = λ yes. absurd (both_ways table.rises falls yes);
   some = λ _ k up. some k up (cases_lt k (length new));
-  each = λ _ k d up. subst (λ (xs : List (Vec ℤ Global)). HasWidth row (events + 1) (2 ^ k) (get_or xs k d).items) (sym are)
+  each = λ _ k d up.
+      subst (λ (xs : List (Vec ℤ Global)). HasWidth row (events + 1) (2 ^ k) (get_or xs k d).items) (sym are)
       (levels_more row (events + 1) width levels new level is here made each k d
       (subst (λ (xs : List (Vec ℤ Global)). k < length xs) are (some k up (cases_lt k (length new)))));
 }

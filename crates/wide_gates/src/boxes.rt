@@ -1,7 +1,7 @@
 //! The counts that the processes may have around each event: a range of each other process.
 //!
-//! Events of a process that follow each other have the same ranges but where a message leaves or reaches one of them, so
-//! they share a box, and there are few boxes if there are few messages.
+//! Events of a process that follow each other have the same ranges unless a message leaves or reaches one of them, and
+//! then they share a box. So there are few boxes if there are few messages.
 ghost use Rattle.wide_gates.specs.Boxes.{HasBox, HaveBoxes, IsLastBox, IsMoreBoxes};
 ghost use Rattle.wide_gates.specs.Spots.{AreThere, event_of};
 ghost use Rattle.wide_gates.specs.declared.spot.Spot.{Spot};
@@ -54,13 +54,14 @@ fn is_in_box(computation: &Computation<'_>, last: Spot, spot: Spot, ranges: &[Ra
 fn is_in_last(computation: &Computation<'_>, spots: &[Spot], k: usize, boxes: &[Vec<Range>]) -> bool
     requires spots { AreThere computation.now.events spots.now }
     requires there { k < length spots.now }
-    requires last { 0 < k → (d : Spot) → IsLastBox computation.now.events (slice_index_or spots.now (k - 1) d) boxes.now }
+    requires last { 0 < k → (d : Spot)
+        → IsLastBox computation.now.events (slice_index_or spots.now (k - 1) d) boxes.now }
     ensures { IsTrue result → (d : Spot) → IsLastBox computation.now.events (slice_index_or spots.now k d) boxes.now }
 {
     k > 0 && is_in_box(computation, spots[k - 1], spots[k], &boxes[boxes.len() - 1])
 }
 
-/// The box of a spot, for which the one of another spot says where to begin.
+/// The box of a spot. The search for the end of each range begins at the end of that in the box of another spot.
 fn box_after(
     alloc: Global,
     computation: &Computation<'_>,
@@ -103,7 +104,7 @@ fn box_of(
     Ok(made)
 }
 
-/// The box of spot `k`. The one before it has the last box.
+/// The box of spot `k`. The spot before it has the last box.
 fn box_at(
     alloc: Global,
     computation: &Computation<'_>,
@@ -113,8 +114,10 @@ fn box_at(
 ) -> Result<Vec<Range>, AllocError>
     requires spots { AreThere computation.now.events spots.now }
     requires there { k < length spots.now }
-    requires last { 0 < k → (d : Spot) → IsLastBox computation.now.events (slice_index_or spots.now (k - 1) d) boxes.now }
-    ensures { IfOk result (λ made. (d : Spot) → HasBox computation.now.events (slice_index_or spots.now k d) made.items) }
+    requires last { 0 < k → (d : Spot)
+        → IsLastBox computation.now.events (slice_index_or spots.now (k - 1) d) boxes.now }
+    ensures { IfOk result (λ made. (d : Spot)
+        → HasBox computation.now.events (slice_index_or spots.now k d) made.items) }
 {
     if k == 0 {
         return Ok(box_of(alloc, computation, spots[k])?);
