@@ -1,5 +1,5 @@
 -- Which comparisons are excluded in a set of counts, by the greatest excess there.
-use Rattle.std.specs.Prelude.{◌≡◌, ℕ, ◌<◌, ◌⊎◌, List, length, ℤ, ◌<ℤ◌, ◌≤ℤ◌, pos, slice_index_or}
+use Rattle.std.specs.Prelude.{⊤, ◌≡◌, ℕ, ◌<◌, ◌⊎◌, List, length, ℤ, ◌<ℤ◌, ◌≤ℤ◌, pos, slice_index_or}
 use Rattle.def_model.specs.Predicates.{Sign, Term, Comparison, Equals, Differs, IsLess, IsAtMost, IsGreater, IsAtLeast, Recorded}
 use Rattle.def_wide.specs.Sums.{excess_of}
 use Rattle.wide_gates.specs.Spots.{IsAt}
@@ -13,6 +13,23 @@ ExcludedBy IsLess above below = below ≤ℤ pos 0
 ExcludedBy IsAtMost above below = below <ℤ pos 0
 ExcludedBy IsGreater above below = above ≤ℤ pos 0
 ExcludedBy IsAtLeast above below = above <ℤ pos 0
+
+-- one of the two numbers alone says it
+abbrev pub IsOfAbove : Comparison → Type 0
+IsOfAbove Equals = ⊥
+IsOfAbove Differs = ⊥
+IsOfAbove IsLess = ⊥
+IsOfAbove IsAtMost = ⊥
+IsOfAbove IsGreater = ⊤
+IsOfAbove IsAtLeast = ⊤
+
+abbrev pub IsOfBelow : Comparison → Type 0
+IsOfBelow Equals = ⊥
+IsOfBelow Differs = ⊥
+IsOfBelow IsLess = ⊤
+IsOfBelow IsAtMost = ⊤
+IsOfBelow IsGreater = ⊥
+IsOfBelow IsAtLeast = ⊥
 
 -- by how much one sum is more than the other at most at the counts of a set
 pub record IsMostExcess (InSet : List ℕ → Type 0) (r : Recorded) (left right : List (Sign × Term)) (x : ℤ)

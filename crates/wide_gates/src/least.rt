@@ -7,7 +7,7 @@ ghost use Rattle.std.specs.Prelude.{◌≡◌, ℕ, IfOk, MatchOption, length};
 use super::boxes::all_boxes;
 use super::levels::levels_at;
 use super::spot::all_spots;
-use super::sure::sure_at;
+use super::sure::where_surely;
 use pd_clock::Computation;
 use pd_pred::Tree;
 use std::alloc::{AllocError, Global};
@@ -42,8 +42,10 @@ fn least_flagged(numbers: &[u64], flags: &[bool]) -> Option<u64>
 /// after an event, if the predicate surely holds at all of these, as its comparisons tell, each by itself. There is
 /// none if there is no gate, or the predicate names a process that isn't there.
 ///
-/// It takes some steps for each event, process and comparison. Whatever the number of comparisons, it keeps about a
-/// hundred bytes for each event, and four more for each level of parentheses.
+/// It takes some steps for each event and comparison, and some for each process and event that a message leaves or
+/// reaches. It keeps about 150 bytes for each event, a hundred more for each that a message leaves or reaches, and two
+/// more for each level of parentheses; and for each event of a process whose numbers fall in a comparison, some 16 for
+/// each bit of the number of these events.
 ///
 /// # Errors
 /// An allocation was refused.
@@ -61,7 +63,7 @@ pub fn least_gate(
     }
     let spots = all_spots(alloc, computation)?;
     let boxes = all_boxes(alloc, computation, &spots)?;
-    let sure = sure_at(alloc, computation, &spots, &boxes, tree)?;
+    let sure = where_surely(alloc, computation, &spots, &boxes, tree, true)?;
     let levels = levels_at(alloc, computation, &spots, &boxes)?;
-    Ok(least_flagged(&levels, &sure.yes))
+    Ok(least_flagged(&levels, &sure))
 }

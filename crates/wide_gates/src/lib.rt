@@ -14,7 +14,7 @@
 //! - `greatest`: the greatest sum of rows right before and right after each event
 //! - `levels`: the greatest number of events there
 //! - `excluded`: which comparisons are excluded by the greatest excess
-//! - `sure`: whether a predicate surely holds there, or surely doesn't
+//! - `sure`: where a predicate surely has a value
 //! - `least`: the least level at which it surely holds
 #![tactic(auto)]
 

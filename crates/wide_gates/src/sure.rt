@@ -1,15 +1,15 @@
-//! Whether a predicate surely holds right before and right after each event, or surely doesn't.
+//! Whether a predicate surely has a value right before and right after each event.
 ghost use Rattle.def_wide.specs.Sums.{NameBelow, NamesNoOther};
 ghost use Rattle.def_model.specs.Predicates.{And, Compare, Or};
 ghost use Rattle.pd_pred.specs.Trees.{comparison_view, sum_view, tree_view};
 ghost use Rattle.wide_gates.specs.Boxes.{HaveBoxes};
 ghost use Rattle.wide_gates.specs.Excluded.{AreMostExcess, ExcludedBy};
 ghost use Rattle.wide_gates.specs.Spots.{AreThere};
-ghost use Rattle.wide_gates.specs.Sure.{AreExcluded, AreSure, IsAnd, IsOr};
-ghost use Rattle.std.specs.Prelude.{◌≡◌, IfOk, length};
+ghost use Rattle.wide_gates.specs.Sure.{AreExcluded, AreExcludedAs, AreJoined, AreWhere};
+ghost use Rattle.std.specs.Prelude.{◌≡◌, Bool, IfOk, cond, length, not};
 
 use super::boxes::Boxes;
-use super::excluded::{is_excluded, opposite_of};
+use super::excluded::{excluding, is_excluded, is_of_above, is_of_below};
 use super::flags::{all, both, either};
 use super::greatest::greatest_sums;
 use super::rows::rows_of;
@@ -17,13 +17,6 @@ use super::spot::Spot;
 use pd_clock::Computation;
 use pd_pred::{Comparison, Sum, Tree};
 use std::alloc::{AllocError, Global};
-
-/// At which spots a predicate surely holds, and at which it surely doesn't.
-#[derive(Drop)]
-pub(crate) struct Sure {
-    pub(crate) yes: Vec<bool>,
-    pub(crate) no: Vec<bool>,
-}
 
 /// By how much one sum is more than another at most at each spot.
 fn greatest_excess(
@@ -64,8 +57,8 @@ fn where_excluded(
     Ok(flags)
 }
 
-/// Of a comparison.
-fn sure_comparison(
+/// Where a comparison is excluded. Only the excess that it asks for is computed.
+fn where_excluded_as(
     alloc: Global,
     computation: &Computation<'_>,
     spots: &[Spot],
@@ -73,88 +66,77 @@ fn sure_comparison(
     left: &Sum,
     comparison: Comparison,
     right: &Sum,
-) -> Result<Sure, AllocError>
+) -> Result<Vec<bool>, AllocError>
     requires spots { AreThere computation.now.events spots.now }
     requires boxes { HaveBoxes computation.now.events spots.now (length spots.now) boxes.now.boxes.items
         boxes.now.numbers.items }
     requires left { NameBelow (length computation.now.events) (sum_view left.now) }
     requires right { NameBelow (length computation.now.events) (sum_view right.now) }
-    ensures { IfOk result (AreSure computation.now spots.now
-        (Compare (sum_view left.now) (comparison_view comparison) (sum_view right.now))) }
+    ensures { IfOk result (λ flags. AreExcludedAs computation.now spots.now (comparison_view comparison)
+        (sum_view left.now) (sum_view right.now) flags.items) }
 {
+    if is_of_below(comparison) {
+        let below = greatest_excess(alloc, computation, spots, boxes, right, left)?;
+        return Ok(where_excluded(alloc, comparison, &below, &below)?);
+    }
     let above = greatest_excess(alloc, computation, spots, boxes, left, right)?;
+    if is_of_above(comparison) {
+        return Ok(where_excluded(alloc, comparison, &above, &above)?);
+    }
     let below = greatest_excess(alloc, computation, spots, boxes, right, left)?;
-    let yes = where_excluded(alloc, opposite_of(comparison), &above, &below)?;
-    let no = where_excluded(alloc, comparison, &above, &below)?;
-    Ok(Sure { yes, no })
+    Ok(where_excluded(alloc, comparison, &above, &below)?)
 }
 
-/// Of the `and` of two predicates.
-fn sure_and(alloc: Global, left: &Sure, right: &Sure) -> Result<Sure, AllocError>
-    requires yes { length right.now.yes.items ≡ length left.now.yes.items }
-    requires no { length right.now.no.items ≡ length left.now.no.items }
-    ensures { IfOk result (IsAnd left.now right.now) }
+/// Where both lists have `true` if `all`, and else where one of them has it.
+fn joined(alloc: Global, all: bool, left: &[bool], right: &[bool]) -> Result<Vec<bool>, AllocError>
+    requires { length right.now ≡ length left.now }
+    ensures { IfOk result (λ flags. AreJoined all left.now right.now flags.items) }
 {
-    let yes = both(alloc, &left.yes, &right.yes)?;
-    let no = either(alloc, &left.no, &right.no)?;
-    Ok(Sure { yes, no })
+    if all {
+        return Ok(both(alloc, left, right)?);
+    }
+    Ok(either(alloc, left, right)?)
 }
 
-/// Of the `or` of two predicates.
-fn sure_or(alloc: Global, left: &Sure, right: &Sure) -> Result<Sure, AllocError>
-    requires yes { length right.now.yes.items ≡ length left.now.yes.items }
-    requires no { length right.now.no.items ≡ length left.now.no.items }
-    ensures { IfOk result (IsOr left.now right.now) }
-{
-    let yes = either(alloc, &left.yes, &right.yes)?;
-    let no = both(alloc, &left.no, &right.no)?;
-    Ok(Sure { yes, no })
-}
-
-/// Where the predicate surely holds, and where it surely doesn't.
+/// Where the predicate surely has the value.
 ///
 /// # Errors
 /// An allocation was refused.
-pub(crate) fn sure_at(
+pub(crate) fn where_surely(
     alloc: Global,
     computation: &Computation<'_>,
     spots: &[Spot],
     boxes: &Boxes,
     tree: &Tree,
-) -> Result<Sure, AllocError>
+    value: bool,
+) -> Result<Vec<bool>, AllocError>
     requires spots { AreThere computation.now.events spots.now }
     requires boxes { HaveBoxes computation.now.events spots.now (length spots.now) boxes.now.boxes.items
         boxes.now.numbers.items }
     requires names { NamesNoOther (length computation.now.events) (tree_view tree.now) }
-    ensures { IfOk result (AreSure computation.now spots.now (tree_view tree.now)) }
+    ensures { IfOk result (λ flags. AreWhere value computation.now spots.now (tree_view tree.now) flags.items) }
 {
     match tree {
-        Tree::Always => Ok(Sure {
-            yes: all(alloc, true, spots.len())?,
-            no: all(alloc, false, spots.len())?,
-        }),
-        Tree::Never => Ok(Sure {
-            yes: all(alloc, false, spots.len())?,
-            no: all(alloc, true, spots.len())?,
-        }),
+        Tree::Always => Ok(all(alloc, value, spots.len())?),
+        Tree::Never => Ok(all(alloc, !value, spots.len())?),
         Tree::Compare {
             left,
             comparison,
             right,
-        } => Ok(sure_comparison(alloc, computation, spots, boxes, left, *comparison, right)?),
-        Tree::Not(inner) => {
-            let Sure { yes, no } = sure_at(alloc, computation, spots, boxes, inner)?;
-            Ok(Sure { yes: no, no: yes })
+        } => {
+            let by = excluding(*comparison, value);
+            Ok(where_excluded_as(alloc, computation, spots, boxes, left, by, right)?)
         }
+        Tree::Not(inner) => Ok(where_surely(alloc, computation, spots, boxes, inner, !value)?),
         Tree::And(left, right) => {
-            let first = sure_at(alloc, computation, spots, boxes, left)?;
-            let second = sure_at(alloc, computation, spots, boxes, right)?;
-            Ok(sure_and(alloc, &first, &second)?)
+            let first = where_surely(alloc, computation, spots, boxes, left, value)?;
+            let second = where_surely(alloc, computation, spots, boxes, right, value)?;
+            Ok(joined(alloc, value, &first, &second)?)
         }
         Tree::Or(left, right) => {
-            let first = sure_at(alloc, computation, spots, boxes, left)?;
-            let second = sure_at(alloc, computation, spots, boxes, right)?;
-            Ok(sure_or(alloc, &first, &second)?)
+            let first = where_surely(alloc, computation, spots, boxes, left, value)?;
+            let second = where_surely(alloc, computation, spots, boxes, right, value)?;
+            Ok(joined(alloc, !value, &first, &second)?)
         }
     }
 }

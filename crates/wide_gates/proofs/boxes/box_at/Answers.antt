@@ -1,5 +1,5 @@
 -- The last box.
-use Rattle.std.proofs.Common.{◌-◌, ◌<◌, false, get_or, arith}
+use Rattle.std.proofs.Common.{◌-◌, false, get_or, arith}
 use Rattle.wide_gates.specs.declared.spot.Spot.{Spot}
 use Rattle.wide_gates.proofs.Sharing.{of_last}
 use Rattle.wide_gates.proofs.boxes.box_at.Goals as goal

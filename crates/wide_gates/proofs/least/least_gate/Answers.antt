@@ -16,10 +16,10 @@ none = record { place = record { process = 0; number = 0 }; after = false }
 pub returns : goal.returns
 returns c =
     found_least c.args.computation.now (tree_view c.args.tree.now) c.in_ok-spots.spots.items
-    c.in_ok-sure.sure.yes.items c.in_ok-levels.levels.items c.in_ok-spots.ensures
+    c.in_ok-sure.sure.items c.in_ok-levels.levels.items c.in_ok-spots.ensures
     (subst
     (λ (spots : List Spot). AreWhere true c.args.computation.now spots (tree_view c.args.tree.now)
-    c.in_ok-sure.sure.yes.items) c.deref-2.ensures.value c.in_ok-sure.ensures.holds)
+    c.in_ok-sure.sure.items) c.deref-2.ensures.value c.in_ok-sure.ensures)
     (subst (λ (spots : List Spot). AreLevels c.args.computation.now.events spots c.in_ok-levels.levels.items)
     c.deref-3.ensures.value c.in_ok-levels.ensures) none
     (subst (λ (n : ℕ). NamesNoOther n (tree_view c.args.tree.now)) c.processes.ensures
