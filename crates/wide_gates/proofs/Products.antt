@@ -1,8 +1,8 @@
 -- Greatest sums, one process after another.
-use Rattle.std.proofs.Common.{◌≡◌, inl, inr, ◌⊎◌, ◌↔◌, ℕ, zero, suc, ◌+◌, ◌*◌, ◌<◌, ◌≤◌, List, [], ◌∷◌, ◌++◌, length, get_or, set, take, ℤ, pos, ◌+ℤ◌, ◌-ℤ◌, ◌≤ℤ◌, refl, sym, ap, ◌∙◌, subst, arith}
+use Rattle.std.proofs.Common.{replicate, ◌≡◌, inl, inr, ◌⊎◌, ◌↔◌, ℕ, zero, suc, ◌+◌, ◌*◌, ◌<◌, ◌≤◌, List, [], ◌∷◌, ◌++◌, length, get_or, set, take, ℤ, pos, ◌+ℤ◌, ◌-ℤ◌, ◌≤ℤ◌, refl, sym, ap, ◌∙◌, subst, arith}
 use Rattle.std.proofs.lemmas.Bool.{cases_eq}
 use Rattle.std.proofs.lemmas.Int.{ints}
-use Rattle.std.proofs.lemmas.List.{get_or_default, get_or-set_other, get_or-set_same, get_or-take, length-set, length-take-le, length_push, take_all, take_more}
+use Rattle.std.proofs.lemmas.List.{get_or-replicate, length-replicate, get_or_default, get_or-set_other, get_or-set_same, get_or-take, length-set, length-take-le, length_push, take_all, take_more}
 use Rattle.std.specs.Prelude.{Vec, unsigned_abs}
 use Rattle.std.specs.Global.{Global}
 use Rattle.def_model.specs.Events.{Computation, IsEvent}
@@ -243,7 +243,8 @@ some_of (x ∷ xs) lt = x
 
 module _ (c : Computation) (acyclic : HasNoCycle c) (spots : List Spot) (there : AreThere c spots)
     (boxes : List (Vec Range Global)) (numbers : List ℕ) (have : HaveBoxes c spots (length spots) boxes numbers)
-    (values : List (Vec ℤ Global)) (are : AreValues c values) (sums : List ℤ) (of : AreBoxSums boxes values sums)
+    (values : List (Vec ℤ Global)) (are : AreValues c values) (sums : List ℤ)
+    (of : AreBoxSums boxes values (length values) sums)
     (k : ℕ) (d : Spot) (lt : k < length spots) (x : ℤ) (is : x ≡ get_or sums (get_or numbers k 0) (pos 0)) where
   abbrev here : Vec Range Global
   here = some_of boxes (let n : get_or numbers k 0 < length boxes = have.there k lt in omega (arith, n))
@@ -281,3 +282,14 @@ pub row_small : (c : Computation) (values : List (Vec ℤ Global)) (p count : �
     → unsigned_abs (number_at row.items count) ≤ value_limit
 row_small c values p count row are lt at =
     subst (λ (z : ℤ). unsigned_abs z ≤ value_limit) (value_is values p count row lt at) (are.small p count)
+
+-- no process yet
+pub no_sums : (boxes : List (Vec Range Global)) (values : List (Vec ℤ Global))
+    → AreBoxSums boxes values 0 (replicate (length boxes) (pos 0))
+no_sums boxes values = record {
+  one_each = length-replicate (length boxes) (pos 0);
+  each = λ i b lt.
+      subst (IsMostUpTo values (InRanges (get_or boxes i b).items) 0)
+      (sym (get_or-replicate (length boxes) i (pos 0) (pos 0) lt))
+      (nothing_yet values (InRanges (get_or boxes i b).items));
+}

@@ -18,11 +18,12 @@ pub record IsMostUpTo (values : List (Vec ℤ Global)) (May : ℕ → ℕ → Ty
       → sum_at values other ≤ℤ x
   pub small : unsigned_abs x ≤ n * value_limit
 
--- the greatest sum over the counts of each box
-pub record AreBoxSums (boxes : List (Vec Range Global)) (values : List (Vec ℤ Global)) (sums : List ℤ) : Type 0 where
-  pub one_each : length sums ≡ length boxes
-  pub each : (i : ℕ) (b : Vec Range Global) → i < length boxes
-      → IsMostUpTo values (InRanges (slice_index_or boxes i b).items) (length values) (slice_index_or sums i (pos 0))
+-- the greatest sum of the first n processes over the counts of each box
+pub record AreBoxSums (boxes : List (Vec Range Global)) (values : List (Vec ℤ Global)) (n : ℕ) (sums : List ℤ) : Type 0
+  where
+    pub one_each : length sums ≡ length boxes
+    pub each : (i : ℕ) (b : Vec Range Global) → i < length boxes
+        → IsMostUpTo values (InRanges (slice_index_or boxes i b).items) n (slice_index_or sums i (pos 0))
 
 -- the greatest sum over the counts of a set
 pub record IsMost (InSet : List ℕ → Type 0) (values : List (Vec ℤ Global)) (x : ℤ) : Type 0 where

@@ -1,7 +1,6 @@
 -- The greatest numbers of a row between two counts.
 use Rattle.std.specs.Prelude.{◌≡◌, ℕ, ◌+◌, ◌<◌, ◌≤◌, ◌^◌, true, false, List, length, ℤ, pos, ◌≤ℤ◌, slice_index_or, Vec}
 use Rattle.std.specs.Global.{Global}
-use Rattle.def_model.specs.Events.{Computation, event_count}
 use Rattle.wide_slice.specs.Values.{number_at}
 use Rattle.wide_gates.specs.declared.table.Table.{Table}
 
@@ -28,9 +27,3 @@ pub record IsTable (row : List ℤ) (events : ℕ) (table : Table) : Type 0 wher
   pub some : table.rises ≡ false → (k : ℕ) → 2 ^ k ≤ events + 1 → k < length table.levels.items
   pub each : table.rises ≡ false → (k : ℕ) (d : Vec ℤ Global) → 2 ^ k ≤ events + 1
       → HasWidth row (events + 1) (2 ^ k) (slice_index_or table.levels.items k d).items
-
--- of each row
-pub record AreTables (c : Computation) (values : List (Vec ℤ Global)) (tables : List Table) : Type 0 where
-  pub one_each : length tables ≡ length values
-  pub each : (q : ℕ) (row : Vec ℤ Global) (table : Table) → q < length values
-      → IsTable (slice_index_or values q row).items (event_count c q) (slice_index_or tables q table)

@@ -5,9 +5,10 @@ ghost use Rattle.wide_gates.specs.Boxes.{AreBoxes, HaveBoxes, IsBox};
 ghost use Rattle.wide_gates.specs.Greatest.{AreBoxSums, AreMost, IsMostUpTo};
 ghost use Rattle.wide_gates.specs.Ranges.{InRanges};
 ghost use Rattle.wide_gates.specs.Spots.{AreThere, own_count};
-ghost use Rattle.wide_gates.specs.Tables.{AreTables};
+ghost use Rattle.wide_gates.specs.Tables.{IsTable};
 ghost use Rattle.wide_slice.specs.Values.{AreValues, number_at, value_limit};
-ghost use Rattle.std.specs.Prelude.{◌≡◌, ◌*◌, ◌<◌, ◌≤◌, ◌+ℤ◌, ◌-ℤ◌, IfOk, length, unsigned_abs};
+ghost use Rattle.std.specs.Global.{Global};
+ghost use Rattle.std.specs.Prelude.{◌≡◌, ◌+◌, ◌*◌, ◌<◌, ◌≤◌, ◌+ℤ◌, ◌-ℤ◌, IfOk, Vec, ℤ, length, slice_index_or, unsigned_abs};
 
 use super::boxes::Boxes;
 use super::range::Range;
@@ -15,25 +16,6 @@ use super::spot::{Spot, own};
 use super::table::{Table, number};
 use pd_clock::Computation;
 use std::alloc::{AllocError, Global};
-
-/// The table of each row.
-fn tables_of(
-    alloc: Global,
-    computation: &Computation<'_>,
-    values: &[Vec<i128>],
-) -> Result<Vec<Table>, AllocError>
-    requires { AreValues computation.now.events values.now }
-    ensures { IfOk result (λ tables. AreTables computation.now.events values.now tables.items) }
-{
-    computation.limits();
-    let mut tables = Vec::with_capacity(alloc, values.len())?;
-    for q in 0..values.len() {
-        let row = values[q].as_slice();
-        let table = Table::new(alloc, row, computation.events(q))?;
-        tables.push(table)?;
-    }
-    Ok(tables)
-}
 
 /// The sum with a number more.
 fn with_more(sum: i128, number: i128) -> i128
@@ -54,35 +36,61 @@ fn with_other(sum: i128, old: i128, new: i128) -> i128
     sum - old + new
 }
 
-/// The greatest sum over the counts of a box.
-fn box_sum(
+/// The greatest sum over the counts of a box, with process `q` added to the processes before it.
+fn box_more(
     computation: &Computation<'_>,
     ranges: &[Range],
     values: &[Vec<i128>],
-    tables: &[Table],
+    q: usize,
+    table: &Table,
+    sum: i128,
 ) -> i128
     requires ranges { IsBox computation.now.events ranges.now }
     requires values { AreValues computation.now.events values.now }
-    requires tables { AreTables computation.now.events values.now tables.now }
-    ensures { IsMostUpTo values.now (InRanges ranges.now) (length values.now) result }
+    requires within { q < length values.now }
+    requires table { (row : Vec ℤ Global) → IsTable (slice_index_or values.now q row).items
+        (event_count computation.now.events q) table.now }
+    requires before { IsMostUpTo values.now (InRanges ranges.now) q sum }
+    ensures { IsMostUpTo values.now (InRanges ranges.now) (q + 1) result }
 {
     computation.limits();
-    let mut sum = 0;
-    for q in 0..values.len() {
-        let range = ranges[q];
-        let row = values[q].as_slice();
-        let number = tables[q].greatest(
-            row,
-            computation.events(q),
-            range.low as u64,
-            range.high as u64,
-        );
-        sum = with_more(sum, number);
-    }
-    sum
+    let range = ranges[q];
+    let row = values[q].as_slice();
+    let number = table.greatest(
+        row,
+        computation.events(q),
+        range.low as u64,
+        range.high as u64,
+    );
+    with_more(sum, number)
 }
 
-/// The greatest sum over the counts of each box.
+/// The sums of the boxes, with process `q` added to the processes before it.
+fn with_row(
+    alloc: Global,
+    computation: &Computation<'_>,
+    boxes: &[Vec<Range>],
+    values: &[Vec<i128>],
+    q: usize,
+    sums: &[i128],
+) -> Result<Vec<i128>, AllocError>
+    requires boxes { AreBoxes computation.now.events boxes.now }
+    requires values { AreValues computation.now.events values.now }
+    requires within { q < length values.now }
+    requires sums { AreBoxSums boxes.now values.now q sums.now }
+    ensures { IfOk result (λ made. AreBoxSums boxes.now values.now (q + 1) made.items) }
+{
+    computation.limits();
+    let row = values[q].as_slice();
+    let table = Table::new(alloc, row, computation.events(q))?;
+    let mut made = Vec::with_capacity(alloc, boxes.len())?;
+    for i in 0..boxes.len() {
+        made.push(box_more(computation, &boxes[i], values, q, &table, sums[i]))?;
+    }
+    Ok(made)
+}
+
+/// The greatest sum over the counts of each box. One table of a row is kept at a time.
 fn box_sums(
     alloc: Global,
     computation: &Computation<'_>,
@@ -91,12 +99,11 @@ fn box_sums(
 ) -> Result<Vec<i128>, AllocError>
     requires boxes { AreBoxes computation.now.events boxes.now }
     requires values { AreValues computation.now.events values.now }
-    ensures { IfOk result (λ sums. AreBoxSums boxes.now values.now sums.items) }
+    ensures { IfOk result (λ sums. AreBoxSums boxes.now values.now (length values.now) sums.items) }
 {
-    let tables = tables_of(alloc, computation, values)?;
-    let mut sums = Vec::with_capacity(alloc, boxes.len())?;
-    for i in 0..boxes.len() {
-        sums.push(box_sum(computation, &boxes[i], values, &tables))?;
+    let mut sums = vec![in alloc; 0; boxes.len()]?;
+    for q in 0..values.len() {
+        sums = with_row(alloc, computation, boxes, values, q, &sums)?;
     }
     Ok(sums)
 }

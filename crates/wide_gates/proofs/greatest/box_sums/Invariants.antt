@@ -1,15 +1,6 @@
--- The sums so far.
-use Rattle.std.proofs.Common.{◌≡◌, ℕ, ◌<◌, get_or, length, pos}
-use Rattle.std.specs.Prelude.{Vec}
-use Rattle.std.specs.Global.{Global}
-use Rattle.wide_gates.specs.Greatest.{IsMostUpTo}
-use Rattle.wide_gates.specs.Ranges.{InRanges}
-use Rattle.wide_gates.specs.declared.range.Range.{Range}
+-- The sums of the processes so far.
+use Rattle.wide_gates.specs.Greatest.{AreBoxSums}
 use Rattle.wide_gates.proofs.greatest.box_sums.Given as goal
 
-abbrev pub invariant-loop-i : goal.invariant-loop-i
-invariant-loop-i l = record {
-  many : length l.sums.items ≡ l.i;
-  each : (j : ℕ) (b : Vec Range Global) → j < l.i
-      → IsMostUpTo l.values (InRanges (get_or l.boxes j b).items) (length l.values) (get_or l.sums.items j (pos 0));
-}
+abbrev pub invariant-loop-q : goal.invariant-loop-q
+invariant-loop-q l = AreBoxSums l.boxes l.values l.q l.sums.items

@@ -20,10 +20,11 @@ abbrev no_spot : Spot
 no_spot = record { place = record { process = 0; number = 0 }; after = false }
 
 of_boxes : (c : After-as_slice-row) → AreBoxSums c.args.boxes.now.boxes.items c.args.values.now
-    c.in_ok-of_boxes.of_boxes.items
+    (length c.args.values.now) c.in_ok-of_boxes.of_boxes.items
 of_boxes c =
     subst
-    (λ (boxes : List (Vec Range Global)). AreBoxSums boxes c.args.values.now c.in_ok-of_boxes.of_boxes.items)
+    (λ (boxes : List (Vec Range Global)). AreBoxSums boxes c.args.values.now (length c.args.values.now)
+    c.in_ok-of_boxes.of_boxes.items)
     c.deref.ensures.value c.in_ok-of_boxes.ensures
 
 -- the sum of the box of the spot
