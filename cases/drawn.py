@@ -10,7 +10,7 @@ These are judged with --beyond-width too, with their own width, with width 1 and
 checked. With three processes or more they have up to ten predicates more for that, of sums over several processes and
 of what holds near the full cut, judged from the definitions in crates/def_wide/specs: slices, excesses and steps are
 looked at cut by cut, dead ends of the search back too, and if there are few observations by all lists of undone events,
-and gates are all counts around each event. Half of the sessions are of version 2, in which a message may have several
+gates are all counts around each event, and tried cuts the ends of these. Half of the sessions are of version 2, in which a message may have several
 receivers. One of three has 7 to 16 processes, of which few have events. Each kind of line has to stand in the reports
 and findings so often that the drawing can't go empty. The last line says how many sessions there are, how often the
 program ran, and how many sessions differ; the status is 1 if any does, or if lines are missing. With --only the session
@@ -71,9 +71,14 @@ LINES_WANTED = {
     "sums: .*; solved == falls by one(;|$)": 1,
     "sums: .*; excluded ==(;|$)": 10, "sums: .*; excluded [^=o ]+(;|$)": 5, "sums: .*; excluded of [2-5](;|$)": 10,
     "sums: .*; no slice(;|$)": 20, "sums: .*; local(;|$)": 1,
-    "undecided: Possibly .*; open ==(;|$)": 12, "undecided: Possibly .*; open == beside": 1,
-    "undecided: Possibly .*; open of [2-5](;|$)": 10, "undecided: Possibly .*; open many": 1,
+    "undecided: Possibly .*; open ==(;|$)": 12, "undecided: Possibly .*; open of [2-5](;|$)": 10,
+    "undecided: Possibly .*; open many": 1,
     "undecided: Possibly .*; (solved|excluded|no slice)": 1,
+    "undecided: Possibly .*; in truth yes": 3, "undecided: Possibly .*; in truth no": 30,
+    "width, tried: Possibly yes": 150, "tried: .*; tried: least; ": 60, "tried: .*; tried: greatest; ": 12,
+    "tried: .*; tried: back; ": 10, "tried: .*; exact": 90, "tried: .*; not the first": 30,
+    "tried: Possibly .*; open ==(;|$)": 60, "tried: Possibly .*; open == beside": 5,
+    "tried: Possibly .*; open of [2-5](;|$)": 30, "tried: Possibly .*; open many": 1,
     "width, back: Definitely no": 150, "back: .*; dead ends: none": 120, "back: .*; dead ends: few": 3,
     "back: .*; dead ends: as many as the width": 8, "back: .*; too many cuts": 1,
     "width, gate: Definitely yes": 100, "gate: .*; right after;": 30, "gate: .*; right before;": 3,
@@ -513,11 +518,11 @@ def is_surely(session, predicate, value, counts_there):
 
 
 class Late:
-    """What is found of Definitely by a search back from the full cut, and by gates."""
+    """What is found of Definitely by a search back from the full cut, and by gates; and of Possibly by tried cuts."""
 
     def __init__(self, session, before, cuts, has_few):
         self.session, self.before, self.cuts, self.has_few = session, before, cuts, has_few
-        self.around = functools.cache(self.around)
+        self.around, self.tried = functools.cache(self.around), functools.cache(self.tried)
 
     def seen(self, predicate, cut):
         """The counts of a cut, with 0 in the place of each process that the predicate doesn't name."""
@@ -554,6 +559,34 @@ class Late:
             counts_there = self.around(place, is_after)
             if is_surely(self.session, predicate, True, counts_there):
                 yield max(map(sum, counts_there)), "after" if is_after else "before"
+
+    def way_back(self):
+        """The cuts from the full one back, of which each next one is without the last event of the least process that
+        leaves a consistent cut."""
+        cuts, cut = set(self.cuts), self.cuts[-1]
+        while cut is not None:
+            yield cut
+            less = (undone(cut, process) for process in range(len(cut)) if cut[process])
+            cut = next((it for it in less if it in cuts), None)
+
+    def tried(self):
+        """The cuts that are tried, each with why it is: the least and the greatest of all counts right before and right
+        after each event, and those on the way back."""
+        found = collections.defaultdict(set)
+        for cut in self.way_back():
+            found[cut].add("back")
+        for place, is_after in itertools.product(self.session.places, (False, True)):
+            for why, choose in (("least", min), ("greatest", max)):
+                counts_there = self.around(place, is_after)
+                counts = tuple(map(choose, zip(*counts_there)))
+                if counts in counts_there:
+                    found[counts].add(why)
+        return found
+
+    def first_tried(self, satisfying):
+        """The first tried cut that satisfies, and why it is tried; nothing if none does."""
+        cut = min((cut for cut in self.tried() if cut in satisfying), key=by_level, default=None)
+        return cut, self.tried().get(cut)
 
 
 def named(session, steps):
@@ -681,12 +714,20 @@ class Judged:
         return found, described(self.session, predicate, decisions)
 
     def possible_beyond(self, number, width, way):
-        """Possibly with the option, if this is the width and this the way."""
+        """Possibly with the option, if this is the width and this the way; in which way it is decided then, and what is
+        said of that."""
         by_sums = way == "sums" and self.satisfying[number]
         possible = possibly(self.cuts, self.satisfying[number], math.inf if way and not by_sums else width)
         if by_sums and possible.startswith("unknown"):
-            return "yes " + ",".join(map(str, min(self.satisfying[number], key=by_height)))
-        return possible
+            return "yes " + ",".join(map(str, min(self.satisfying[number], key=by_height))), way, ""
+        if way or not possible.startswith("unknown"):
+            return possible, way, ""
+        cut, why = self.late.first_tried(self.satisfying[number])
+        if cut is None:
+            return possible, None, f"; in truth {'yes' if self.satisfying[number] else 'no'}"
+        exact = cut == min(self.satisfying[number], key=by_level)
+        said = f"; tried: {' and '.join(sorted(why))}; {'exact' if exact else 'not the first'}"
+        return "yes " + ",".join(map(str, cut)), "tried", said
 
     def definite_beyond(self, number, width, way):
         """Definitely with the option, and the way in which it is decided, if there is one; and what is said of that."""
@@ -715,10 +756,14 @@ class Judged:
         return within, None, said + f"; in truth {exact.split()[0]}"
 
     def answers_beyond(self, number, width, why):
-        """Possibly and Definitely with the option, if this is the width and these are the ways; in which way Definitely
-        is decided then, and what is said of that."""
-        definite, way, said = self.definite_beyond(number, width, why[1])
-        return [self.possible_beyond(number, width, why[0]), definite], way, said
+        """Possibly and Definitely with the option, if this is the width and these are the ways: for each the answer, in
+        which way it is decided then, and what is said of that."""
+        possible, definite = self.possible_beyond(number, width, why[0]), self.definite_beyond(number, width, why[1])
+        if possible[0].startswith("yes") and definite[0].startswith("yes"):
+            events, level = sum(map(int, possible[0][4:].split(","))), int(definite[0][4:])
+            if events > level:
+                raise Differs(f"a cut of {events} events is printed beside the level {level}")
+        return possible, definite
 
     def reported_beyond(self, width):
         """The report if this is the width, with the option; and a line for each answer that is unknown without it."""
@@ -728,12 +773,12 @@ class Judged:
         for number in range(len(self.satisfying)):
             why, said = self.ways(number)
             within = self.answers(number, [width] * 2)
-            row, late, said_late = self.answers_beyond(number, width, why)
-            rows.append(row)
-            for modality, way, old, new, more in zip(("Possibly", "Definitely"), (why[0], late), within, row,
-                                                     (said, said + said_late)):
+            found = self.answers_beyond(number, width, why)
+            rows.append([answer for answer, _, _ in found])
+            for modality, old, (new, way, more) in zip(("Possibly", "Definitely"), within, found):
                 if old.startswith("unknown"):
-                    lines.append(f"beyond the width, {way or 'undecided'}: {modality} {new.split()[0]}{more}\n")
+                    way = way or "undecided"
+                    lines.append(f"beyond the width, {way}: {modality} {new.split()[0]}{said}{more}\n")
             lines += self.of_heights(number, within[0], rows[-1][0]) if why[0] == "sums" else []
         return self.of_answers(rows), "".join(lines)
 

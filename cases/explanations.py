@@ -86,8 +86,8 @@ def unknown():
     """Answers that are unknown, by the width alone and beyond it."""
     yield wide()
     yield wide_by_connections()
-    equal, two = "2 * a.x + 2 * b.x + 2 * c.x == 6", "a.x + b.x + c.x > 2 and a.x + b.x + d.x > 2"
-    many = " and ".join(f"(a.x + b.x + c.x > {n} or d.x == {n})" for n in range(13))
+    equal, two = "2 * a.x + 2 * b.x + 2 * c.x == 5", "a.x + b.x + c.x > 4 and a.x + b.x + d.x < 1"
+    many = " and ".join(f"(a.x + b.x + c.x > {n} or d.x == {n})" for n in range(6, 19))
     beyond = ("--beyond-width",)
     yield wide("an answer is unknown that is decided at any width", "a.x == 1 and b.x == 1 and c.x == 1")
     yield wide("an answer is unknown that may be decided at any width", two)
@@ -98,7 +98,7 @@ def unknown():
     yield wide("a predicate has too many terms", many, beyond)
     yield wide("a search back comes to too many dead ends", "a.x + b.x + c.x == 3", beyond)
     yield wide("a level is too wide for any width", "a.x + b.x + c.x > 5", (), "abcdefghijklmnop", 3, 60_000)
-    late = "a.x + b.x + c.x > 8 and a.x + b.x + d.x > 8"
+    late = "a.x + b.x + c.x > 8 and a.x + b.x + d.x < 4"
     yield wide("a level is too wide, and no rule decides", late, beyond, "abcdefghijklmnop", 3, 60_000)
     yield wide("a level is too wide for the greatest width", late, (), "abcdefghijklmnop", 3, 65_536)
 

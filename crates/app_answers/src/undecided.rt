@@ -11,10 +11,7 @@ use std::alloc::AllocError;
 fn possibly_ways(form: PossiblyForm) -> &'static str {
     match form {
         PossiblyForm::Decided => "--beyond-width decides whether it possibly holds",
-        PossiblyForm::ManyTerms => {
-            "no rule decides at any width whether it possibly holds, since it is an `or` of more than 4,096 `and`s \
-once it is multiplied out"
-        }
+        PossiblyForm::ManyTerms => "--beyond-width may find whether it possibly holds",
         PossiblyForm::SeveralSums | PossiblyForm::EqualSum | PossiblyForm::Both => {
             "--beyond-width decides in some cases whether it possibly holds"
         }
@@ -26,8 +23,6 @@ fn definitely_ways(form: Option<PossiblyForm>, decides: bool) -> &'static str {
     match (form, decides) {
         (None, true) => "--beyond-width decides whether it definitely holds",
         (None, false) => "--beyond-width may find whether it definitely holds",
-        (Some(PossiblyForm::ManyTerms), _) =>
-            "; --beyond-width may find whether it definitely holds",
         (Some(_), true) => ", and whether it definitely holds",
         (Some(_), false) => ", and may find whether it definitely holds",
     }
@@ -81,6 +76,7 @@ fn say_reasons(
             "no rule decides at any width whether it possibly holds",
         )?;
         say(out, possibly_reason(form))?;
+        say(out, ", and it holds at none of the cuts that are tried")?;
     }
     let Some(width) = definitely else {
         return Ok(());

@@ -1,11 +1,11 @@
 -- Possibly's answer is sound, whichever way it was found. It isn't unknown if no level is over the document's width, or
--- if the predicate is answered whatever the width; and its cut is the first that satisfies, by level or by height.
--- Definitely's answer is sound, too, and isn't unknown if no level is over the width, or if the predicate is answered
--- beyond it. Each is one.
-use Rattle.std.proofs.Common.{◌≡◌, ℕ, ◌<◌, ◌≤◌, inl, inr, ◌⊎◌, Bool, true, false, List, refl, sym, ap, subst, ◌∙◌, arith}
+-- if the predicate is answered whatever the width; and its cut is the first that satisfies, by level or by height, or
+-- the first tried one. Definitely's answer is sound, too, and isn't unknown if no level is over the width, or if the
+-- predicate is answered beyond it. Each is one.
+use Rattle.std.proofs.Common.{◌≡◌, ℕ, ◌<◌, ◌≤◌, inl, inr, ◌⊎◌, Bool, true, false, List, refl, sym, ap, subst, sum, ◌∙◌, arith}
 use Rattle.std.proofs.lemmas.Bool.{cases_lt, false≢true}
 use Rattle.std.proofs.lemmas.List.Elements.{All-contains}
-use Rattle.def_model.specs.Answers.{PossiblyAnswer, PossiblyYes, PossiblyNo, PossiblyUnknown, DefinitelyAnswer, DefinitelyYes, DefinitelyNo, DefinitelyUnknown, IsFirstSatisfying, IsLeastFree, IsPossiblyUnknown, IsPossiblyAnswer, IsDefinitelyUnknown, IsDefinitelyAnswer, IsExactPossibly, IsExactDefinitely, IsPrintedPath, IsAvoidingObservation, cuts_along}
+use Rattle.def_model.specs.Answers.{PossiblyAnswer, PossiblyYes, PossiblyNo, PossiblyUnknown, DefinitelyAnswer, DefinitelyYes, DefinitelyNo, DefinitelyUnknown, IsFirstSatisfying, IsLeastFree, LexBelow, IsPossiblyUnknown, IsPossiblyAnswer, IsDefinitelyUnknown, IsDefinitelyAnswer, IsExactPossibly, IsExactDefinitely, IsPrintedPath, IsAvoidingObservation, cuts_along}
 use Rattle.def_model.specs.Cuts.{IsConsistent, IsOfLevel, empty_cut, full_cut, total}
 use Rattle.def_model.specs.Events.{Computation}
 use Rattle.def_model.specs.Observations.{Possibly, Definitely, HasNoAvoiding, HasSatisfying, IsAvoiding}
@@ -20,9 +20,10 @@ use Rattle.def_wide.specs.DeadEnds.{HasFewDeadEnds, IsFoundBack}
 use Rattle.def_wide.specs.Gates.{IsLateLevel, of_end, of_gate}
 use Rattle.def_wide.proofs.GateLaws.{few_found, late_level_decides, one_late_level}
 use Rattle.def_wide.specs.Heights.{IsLowerThan, IsFirstByHeight}
+use Rattle.def_wide.specs.Tried.{IsFirstTried}
 use Rattle.def_format.specs.Documents.{Document}
 use Rattle.def_judgement.specs.Headline.{IsNarrow, each_decided}
-use Rattle.def_judgement.specs.Judgements.{AnswersPossibly, possibly_beyond, possibly_by_height, possibly_within, AnswersDefinitely, NothingBeyond, definitely_back, definitely_beyond, definitely_late, definitely_within}
+use Rattle.def_judgement.specs.Judgements.{AnswersPossibly, possibly_beyond, possibly_by_height, possibly_tried, possibly_within, AnswersDefinitely, NothingBeyond, definitely_back, definitely_beyond, definitely_late, definitely_within}
 use Rattle.def_judgement.proofs.Narrow.{avoided_narrowly, level_is_narrow, narrow_width, exact_possibly_at, exact_definitely_at}
 
 -- ---- what an answer says
@@ -38,9 +39,13 @@ module _ (c : Computation) (test : List ℕ → Bool) where
   IsSoundPossibly w PossiblyNo = ¬ Possibly c test
   IsSoundPossibly w (PossiblyUnknown k) = IsPossiblyUnknown c test w k
 
-  -- the answer's cut is the first that satisfies, by level or by height
+  -- the cut is the first that satisfies, by level or by height, or the first tried one
+  abbrev pub IsChosen : List ℕ → Type 0
+  IsChosen cut = IsFirstSatisfying c test cut ⊎ (IsFirstByHeight c test cut ⊎ IsFirstTried c test cut)
+
+  -- the answer's cut is
   abbrev pub IsFirstOf : PossiblyAnswer → Type 0
-  IsFirstOf p = (cut : List ℕ) → p ≡ PossiblyYes cut → IsFirstSatisfying c test cut ⊎ IsFirstByHeight c test cut
+  IsFirstOf p = (cut : List ℕ) → p ≡ PossiblyYes cut → IsChosen cut
 
   exact_is_sound : (w : ℕ) (p : PossiblyAnswer) → IsExactPossibly c test p → IsSoundPossibly w p
   exact_is_sound w (PossiblyYes cut) exact = (exact.consistent, exact.satisfies)
@@ -65,7 +70,11 @@ module _ (c : Computation) (test : List ℕ → Bool) where
   lowest_is_first : (p : PossiblyAnswer) (cut : List ℕ) → p ≡ PossiblyYes cut → IsFirstByHeight c test cut
       → IsFirstOf p
   lowest_is_first p cut is lowest other e =
-      let same : cut ≡ other = cc in inr (subst (IsFirstByHeight c test) same lowest)
+      let same : cut ≡ other = cc in inr (inl (subst (IsFirstByHeight c test) same lowest))
+
+  tried_is_first : (p : PossiblyAnswer) (cut : List ℕ) → p ≡ PossiblyYes cut → IsFirstTried c test cut → IsFirstOf p
+  tried_is_first p cut is tried other e =
+      let same : cut ≡ other = cc in inr (inr (subst (IsFirstTried c test) same tried))
 
   known_if_narrow : (w : ℕ) (p : PossiblyAnswer) → IsNarrow c w → IsPossiblyAnswer c test w p → IsKnown p
   known_if_narrow w p narrow right level e =
@@ -87,6 +96,23 @@ module _ (c : Computation) (test : List ℕ → Bool) where
       go (no n) =
           absurd (clash (fa.first b fb.consistent fb.satisfies (λ e. n (sym e)))
           (fb.first a fa.consistent fa.satisfies n))
+
+  -- so is the first tried one
+  pub one_first_tried : (a b : List ℕ) → IsFirstTried c test a → IsFirstTried c test b → a ≡ b
+  one_first_tried a b fa fb = go (dec_list a b)
+    where
+      clash : (sum a < sum b) ⊎ ((sum a ≡ sum b) × LexBelow a b)
+          → (sum b < sum a) ⊎ ((sum b ≡ sum a) × LexBelow b a) → ⊥
+      clash (inl h) (inl k) = omega arith
+      clash (inl h) (inr (e, k)) = omega arith
+      clash (inr (e, h)) (inl k) = omega arith
+      clash (inr (e, h)) (inr (f, k)) = lex_asymmetric a b h k
+
+      go : Dec (a ≡ b) → a ≡ b
+      go (yes e) = e
+      go (no n) =
+          absurd (clash (fa.first b fb.tried fb.consistent fb.satisfies (λ e. n (sym e)))
+          (fb.first a fa.tried fa.consistent fa.satisfies n))
 
 -- the answer isn't unknown
 abbrev pub IsFound : DefinitelyAnswer → Type 0
@@ -168,7 +194,18 @@ module _ (document : Document) (r : Recorded) (predicate : Predicate) where
       not_narrow : ¬ IsNarrow r.events document.width
       not_narrow narrow =
           level_is_narrow r.events (test_of r predicate) document.width narrow level unknown.wide
-  possibly_at p (possibly_within undecided known right) = record {
+  possibly_at p (possibly_tried asked undecided not_by_sums level unknown cut is tried) = record {
+    sound = subst (IsSoundPossibly r.events (test_of r predicate) document.width) (sym is)
+        (tried.consistent, tried.satisfies);
+    known = λ narrow. absurd (not_narrow narrow);
+    known_if_decided = λ _ _ k e. cc;
+    first = tried_is_first r.events (test_of r predicate) p cut is tried;
+  }
+    where
+      not_narrow : ¬ IsNarrow r.events document.width
+      not_narrow narrow =
+          level_is_narrow r.events (test_of r predicate) document.width narrow level unknown.wide
+  possibly_at p (possibly_within undecided nothing right) = record {
     sound = answer_is_sound r.events (test_of r predicate) document.width p right;
     known = λ narrow. known_if_narrow r.events (test_of r predicate) document.width p narrow right;
     known_if_decided = λ asked. go asked;
@@ -177,7 +214,7 @@ module _ (document : Document) (r : Recorded) (predicate : Predicate) where
     where
       go : document.beyond_width ≡ true → (each_decided document.width).possibly r predicate → IsKnown p
       go asked (inl decided) = absurd (undecided asked decided)
-      go asked (inr by_sums) = known asked by_sums
+      go asked (inr by_sums) = λ level e. (nothing asked).not_by_sums level e by_sums
 
   -- Definitely's
   pub record DefinitelyAt (d : DefinitelyAnswer) : Type 0 where
@@ -245,13 +282,12 @@ module _ (document : Document) (r : Recorded) (predicate : Predicate) where
 
   -- ---- one answer
 
-  -- where the answer under the width isn't unknown, there is none by height
-  not_by_height : (a b : PossiblyAnswer) (level : ℕ)
+  -- where an answer is printed that is found beyond the width, that under the width doesn't stand
+  not_beyond : (b : PossiblyAnswer) (level : ℕ)
       → IsPossiblyUnknown r.events (test_of r predicate) document.width level → ¬ (b ≡ PossiblyUnknown level)
-      → IsPossiblyAnswer r.events (test_of r predicate) document.width b → a ≡ b
-  not_by_height a b level unknown known right =
-      absurd (known (one_possibly_answer r.events (test_of r predicate) document.width b (PossiblyUnknown level)
-      right unknown))
+      → ¬ IsPossiblyAnswer r.events (test_of r predicate) document.width b
+  not_beyond b level unknown known right =
+      known (one_possibly_answer r.events (test_of r predicate) document.width b (PossiblyUnknown level) right unknown)
 
   pub one_possibly : (a b : PossiblyAnswer) → AnswersPossibly document r predicate a
       → AnswersPossibly document r predicate b → a ≡ b
@@ -263,7 +299,10 @@ module _ (document : Document) (r : Recorded) (predicate : Predicate) where
   one_possibly a b (possibly_beyond asked decided exact)
       (possibly_by_height asked' undecided by_sums level unknown cut is lowest) =
       absurd (undecided decided)
-  one_possibly a b (possibly_beyond asked decided exact) (possibly_within undecided known right) =
+  one_possibly a b (possibly_beyond asked decided exact)
+      (possibly_tried asked' undecided not_by_sums level unknown cut is tried) =
+      absurd (undecided decided)
+  one_possibly a b (possibly_beyond asked decided exact) (possibly_within undecided nothing right) =
       absurd (undecided asked decided)
   one_possibly a b (possibly_by_height asked undecided by_sums level unknown cut is lowest)
       (possibly_beyond asked' decided exact) =
@@ -272,14 +311,32 @@ module _ (document : Document) (r : Recorded) (predicate : Predicate) where
       (possibly_by_height asked' undecided' by_sums' level' unknown' cut' is' lowest') =
       is ∙ (ap PossiblyYes (one_first_by_height r.events (test_of r predicate) cut cut' lowest lowest') ∙ sym is')
   one_possibly a b (possibly_by_height asked undecided by_sums level unknown cut is lowest)
-      (possibly_within undecided' known right) =
-      not_by_height a b level unknown (known asked by_sums level) right
-  one_possibly a b (possibly_within undecided known right) (possibly_beyond asked decided exact) =
+      (possibly_tried asked' undecided' not_by_sums level' unknown' cut' is' tried) =
+      absurd (not_by_sums by_sums)
+  one_possibly a b (possibly_by_height asked undecided by_sums level unknown cut is lowest)
+      (possibly_within undecided' nothing right) =
+      absurd (not_beyond b level unknown (λ e. (nothing asked).not_by_sums level e by_sums) right)
+  one_possibly a b (possibly_tried asked undecided not_by_sums level unknown cut is tried)
+      (possibly_beyond asked' decided exact) =
+      absurd (undecided decided)
+  one_possibly a b (possibly_tried asked undecided not_by_sums level unknown cut is tried)
+      (possibly_by_height asked' undecided' by_sums level' unknown' cut' is' lowest) =
+      absurd (not_by_sums by_sums)
+  one_possibly a b (possibly_tried asked undecided not_by_sums level unknown cut is tried)
+      (possibly_tried asked' undecided' not_by_sums' level' unknown' cut' is' tried') =
+      is ∙ (ap PossiblyYes (one_first_tried r.events (test_of r predicate) cut cut' tried tried') ∙ sym is')
+  one_possibly a b (possibly_tried asked undecided not_by_sums level unknown cut is tried)
+      (possibly_within undecided' nothing right) =
+      absurd (not_beyond b level unknown (λ e. (nothing asked).none level e cut tried) right)
+  one_possibly a b (possibly_within undecided nothing right) (possibly_beyond asked decided exact) =
       absurd (undecided asked decided)
-  one_possibly a b (possibly_within undecided known right)
+  one_possibly a b (possibly_within undecided nothing right)
       (possibly_by_height asked undecided' by_sums level unknown cut is lowest) =
-      sym (not_by_height b a level unknown (known asked by_sums level) right)
-  one_possibly a b (possibly_within undecided known right) (possibly_within undecided' known' right') =
+      absurd (not_beyond a level unknown (λ e. (nothing asked).not_by_sums level e by_sums) right)
+  one_possibly a b (possibly_within undecided nothing right)
+      (possibly_tried asked undecided' not_by_sums level unknown cut is tried) =
+      absurd (not_beyond a level unknown (λ e. (nothing asked).none level e cut tried) right)
+  one_possibly a b (possibly_within undecided nothing right) (possibly_within undecided' nothing' right') =
       one_possibly_answer r.events (test_of r predicate) document.width a b right right'
 
   -- a path that is found is an exact answer

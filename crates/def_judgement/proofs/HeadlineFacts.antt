@@ -1,6 +1,6 @@
 -- If each level is narrow no answer is unknown, and each is the truth; so is what is decided whatever the width or by
 -- sums, if it is asked for. The answers agree at every width.
-use Rattle.std.proofs.Common.{◌≡◌, ℕ, ◌≤◌, inl, inr, ◌⊎◌, Bool, true, List, sum, [], ◌∷◌, map, All, refl, ap, subst, ◌↔◌}
+use Rattle.std.proofs.Common.{◌≡◌, ℕ, ◌≤◌, inl, inr, Bool, true, List, sum, [], ◌∷◌, map, All, refl, ap, subst, ◌↔◌}
 use Rattle.std.proofs.lemmas.List.Elements.{All-nil, All-cons}
 use Rattle.std.specs.List.{AllZip}
 use Rattle.def_model.specs.Events.{Computation, Place}
@@ -8,9 +8,8 @@ use Rattle.def_model.specs.Messages.{Version, Fault, SendTwice, Orphan, SelfMess
 use Rattle.def_model.specs.Cuts.{IsConsistent}
 use Rattle.def_model.specs.Order.{HasNoCycle, IsReportedCycle, IsWellFormed}
 use Rattle.def_model.specs.Observations as observations
-use Rattle.def_model.specs.Answers.{PossiblyAnswer, PossiblyYes, PossiblyNo, PossiblyUnknown, DefinitelyAnswer, DefinitelyYes, DefinitelyNo, DefinitelyUnknown, IsFirstSatisfying, IsAvoidingObservation}
+use Rattle.def_model.specs.Answers.{PossiblyAnswer, PossiblyYes, PossiblyNo, PossiblyUnknown, DefinitelyAnswer, DefinitelyYes, DefinitelyNo, DefinitelyUnknown, IsAvoidingObservation}
 use Rattle.def_model.specs.Predicates.{Recorded, test_of}
-use Rattle.def_wide.specs.Heights.{IsFirstByHeight}
 use Rattle.def_format.specs.Names.{ProcessNames, name_of_process}
 use Rattle.def_format.specs.Readings.{Trace}
 use Rattle.def_format.specs.Documents.{Document, NamedPredicate}
@@ -20,8 +19,9 @@ use Rattle.def_model.proofs.OneAnswer.{definite_is_possible}
 use Rattle.def_model.proofs.Paths.{path_avoids}
 use Rattle.def_model.proofs.Stuck.{none_stuck}
 use Rattle.def_judgement.specs.Headline.{IsNarrow, AnswersAgree, SaysPossibly, SaysDefinitely, IsSound, Coverage, SaysTruly, AnswersTruly, TellsTruth, each_predicate, each_decided, Headline, HeadlineBeyondWidth, ReportsAgree}
-use Rattle.def_judgement.proofs.Answered.{IsKnown, IsFound, IsSoundPossibly, IsSoundDefinitely, IsFirstOf, PossiblyAt, possibly_at, DefinitelyAt, definitely_at}
+use Rattle.def_judgement.proofs.Answered.{IsKnown, IsFound, IsSoundPossibly, IsSoundDefinitely, IsChosen, IsFirstOf, PossiblyAt, possibly_at, DefinitelyAt, definitely_at}
 use Rattle.def_judgement.proofs.CutsByHeight.{first_below_level, lowest_below_level}
+use Rattle.def_judgement.proofs.CutsTried.{tried_below_level}
 
 -- ---- what is printed, at every width
 
@@ -59,12 +59,12 @@ path_printed names c test w reported (DefinitelyNo path) e (not_every, printed) 
     let same : words ≡ map (name_of_process names) path = cc in (path, same, path_avoids c test path printed)
 path_printed names c test w reported (DefinitelyUnknown k) e sound words said = absurd (cc)
 
--- the first satisfying cut, by level or by height, has at most as many events as the level
-cut_below : (c : Computation) → HasNoCycle c → (test : List ℕ → Bool) (level : ℕ) (cut : List ℕ)
-    → IsFirstSatisfying c test cut ⊎ IsFirstByHeight c test cut → observations.HasNoAvoiding c test level
-    → sum cut ≤ level
+-- the cut that is printed has at most as many events as the level
+cut_below : (c : Computation) → HasNoCycle c → (test : List ℕ → Bool) (level : ℕ) (cut : List ℕ) → IsChosen c test cut
+    → observations.HasNoAvoiding c test level → sum cut ≤ level
 cut_below c acyclic test level cut (inl first) none = first_below_level c acyclic test cut first level none
-cut_below c acyclic test level cut (inr lowest) none = lowest_below_level c acyclic test cut lowest level none
+cut_below c acyclic test level cut (inr (inl lowest)) none = lowest_below_level c acyclic test cut lowest level none
+cut_below c acyclic test level cut (inr (inr tried)) none = tried_below_level c acyclic test cut tried level none
 
 -- the answers of Possibly and of Definitely agree
 answers_agree : (names : List ProcessNames) (c : Computation) (test : List ℕ → Bool) (w : ℕ) (answer : Answer)

@@ -3,6 +3,7 @@ pub mod Zipped
 pub mod StreamResults
 pub mod Narrow
 pub mod CutsByHeight
+pub mod CutsTried
 pub mod Answered
 pub mod HeadlineFacts
 pub mod Widths

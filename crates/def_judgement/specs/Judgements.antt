@@ -12,6 +12,7 @@ use Rattle.def_wide.specs.DeadEnds.{IsFoundBack}
 use Rattle.def_wide.specs.Gates.{IsLateLevel}
 use Rattle.def_wide.specs.Heights.{IsFirstByHeight}
 use Rattle.def_wide.specs.Sums.{IsDecidedBySums}
+use Rattle.def_wide.specs.Tried.{IsFirstTried}
 use Rattle.def_format.specs.Names.{ProcessNames, name_of_process}
 use Rattle.def_format.specs.Readings.{Ending, Ended, Trace, result_of, reading}
 use Rattle.def_format.specs.Documents.{Document, NamedPredicate, DocumentFault, Inquiry, IsDocument, IsRefusedDocument, plain}
@@ -41,12 +42,19 @@ printed_definitely names (DefinitelyYes level) = Definitely.Yes level
 printed_definitely names (DefinitelyNo path) = Definitely.No (map (name_of_process names) path)
 printed_definitely names (DefinitelyUnknown level) = Definitely.Unknown level
 
--- Whether some consistent cut satisfies a predicate. If the document asks for answers beyond its width, there are three
+-- If the document asks for answers beyond its width, an answer that stays unknown is of a predicate that sums don't
+-- decide and that no tried cut satisfies.
+pub record NothingTried (recorded : Recorded) (predicate : Predicate) (answer : PossiblyAnswer) : Type 0 where
+  pub not_by_sums : (level : ℕ) → answer ≡ PossiblyUnknown level → ¬ IsDecidedBySums recorded predicate
+  pub none : (level : ℕ) → answer ≡ PossiblyUnknown level → (cut : List ℕ)
+      → ¬ IsFirstTried recorded.events (test_of recorded predicate) cut
+
+-- Whether some consistent cut satisfies a predicate. If the document asks for answers beyond its width, there are four
 -- cases. If the predicate is decided at any width, the answer is the exact one. If it isn't, but sums decide it, and
 -- the answer under the width is unknown, the answer is yes, with the first satisfying cut by height: some cut
--- satisfies, since else the predicate would be decided at any width. In all other cases the answer is that under the
--- width, which isn't unknown if sums decide the predicate. If the document doesn't ask, the answer is that under the
--- width.
+-- satisfies, since else the predicate would be decided at any width. If sums don't decide it either, and the answer
+-- under the width is unknown, the answer is yes if a tried cut satisfies, with the first of these. In all other cases
+-- the answer is that under the width. If the document doesn't ask, the answer is that under the width.
 pub data AnswersPossibly (document : Document) (recorded : Recorded) (predicate : Predicate) (answer : PossiblyAnswer) :
     Type 0 where
   possibly_beyond : document.beyond_width ≡ true → IsPossiblyDecided recorded predicate
@@ -57,9 +65,13 @@ pub data AnswersPossibly (document : Document) (recorded : Recorded) (predicate 
       → IsPossiblyUnknown recorded.events (test_of recorded predicate) document.width level → (cut : List ℕ)
       → answer ≡ PossiblyYes cut → IsFirstByHeight recorded.events (test_of recorded predicate) cut
       → AnswersPossibly document recorded predicate answer
+  possibly_tried : document.beyond_width ≡ true → (¬ IsPossiblyDecided recorded predicate)
+      → (¬ IsDecidedBySums recorded predicate) → (level : ℕ)
+      → IsPossiblyUnknown recorded.events (test_of recorded predicate) document.width level → (cut : List ℕ)
+      → answer ≡ PossiblyYes cut → IsFirstTried recorded.events (test_of recorded predicate) cut
+      → AnswersPossibly document recorded predicate answer
   possibly_within : (document.beyond_width ≡ true → ¬ IsPossiblyDecided recorded predicate)
-      → (document.beyond_width ≡ true → IsDecidedBySums recorded predicate → (level : ℕ)
-      → ¬ (answer ≡ PossiblyUnknown level))
+      → (document.beyond_width ≡ true → NothingTried recorded predicate answer)
       → IsPossiblyAnswer recorded.events (test_of recorded predicate) document.width answer
       → AnswersPossibly document recorded predicate answer
 

@@ -5,6 +5,7 @@ pub mod Heights
 pub mod Sums
 pub mod DeadEnds
 pub mod Gates
+pub mod Tried
 pub mod Decided
 pub mod Laws
 pub mod Examples

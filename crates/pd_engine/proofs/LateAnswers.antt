@@ -1,18 +1,17 @@
--- The answer of Possibly, if it isn't left unknown, or is answered by height; and that of Definitely, if it isn't left
--- unknown, or there is a level for a yes.
+-- The answer of Possibly, if it isn't left unknown, or a cut is found beyond the width; and that of Definitely, if it
+-- isn't left unknown, or there is a level for a yes.
 use Rattle.std.proofs.Common.{◌≡◌, inl, inr, ℕ, List, refl, sym, ◌∙◌, ◌↔◌}
 use Rattle.std.proofs.lemmas.Bool.{false≢true}
-use Rattle.std.specs.Prelude.{Bool, true, false, IsTrue, None}
+use Rattle.std.specs.Prelude.{Bool, true, false, IsTrue, None, Some}
 use Rattle.def_format.specs.Documents.{Document}
-use Rattle.def_judgement.specs.Judgements.{AnswersDefinitely, AnswersPossibly, definitely_back, definitely_beyond, definitely_late, definitely_within, possibly_beyond, possibly_by_height, possibly_within}
+use Rattle.def_judgement.specs.Judgements.{AnswersDefinitely, AnswersPossibly, NothingTried, definitely_back, definitely_beyond, definitely_late, definitely_within, possibly_beyond, possibly_by_height, possibly_tried, possibly_within}
 use Rattle.def_model.specs.Answers.{DefinitelyNo, DefinitelyUnknown, PossiblyUnknown}
 use Rattle.def_model.specs.Observations.{Possibly}
 use Rattle.def_model.specs.Predicates.{Predicate, Recorded, test_of}
 use Rattle.def_wide.specs.Decided.{IsPossiblyDecided}
 use Rattle.def_wide.specs.Gates.{IsLateLevel}
-use Rattle.def_wide.specs.Heights.{IsFirstByHeight}
 use Rattle.def_wide.specs.Sums.{IsDecidedBySums}
-use Rattle.pd_engine.specs.Early.{IsByHeightBeyond, IsTaken, IsTakenDefinitely, final_taken, taken_early, taken_walked, walked_taken}
+use Rattle.pd_engine.specs.Early.{IsByHeightBeyond, IsLowestCut, IsTaken, IsTakenDefinitely, IsTriedCut, final_taken, taken_early, taken_walked, walked_taken}
 use Rattle.wide.specs.Found.{FindsFinal}
 use Rattle.walk_back.specs.Answers.{definitely_answer_view, possibly_answer_view}
 use Rattle.walk_back.specs.declared.definitely_answer.DefinitelyAnswer.{DefinitelyAnswer}
@@ -21,41 +20,63 @@ use Rattle.walk_back.specs.declared.possibly_answer.PossiblyAnswer.{PossiblyAnsw
 use Rattle.walk_back.specs.declared.possibly_answer.PossiblyAnswer.TheVariants.{Yes, Unknown}
 
 module _ (document : Document) (r : Recorded) (predicate : Predicate) where
-  -- what is taken is the answer, unless it is unknown and sums decide it
+  -- what is taken is the answer, unless it is unknown and a cut is found beyond the width
   kept : (taken : PossiblyAnswer) → IsTaken document r predicate taken
       → (document.beyond_width ≡ true → (¬ IsPossiblyDecided r predicate)
-      → IsDecidedBySums r predicate → (level : ℕ) → ¬ (possibly_answer_view taken ≡ PossiblyUnknown level))
+      → NothingTried r predicate (possibly_answer_view taken))
       → AnswersPossibly document r predicate (possibly_answer_view taken)
-  kept taken (taken_early beyond decided exact) known = possibly_beyond beyond decided exact
-  kept taken (taken_walked undecided right) known =
-      possibly_within undecided (λ beyond sums level. known beyond (undecided beyond) sums level) right
+  kept taken (taken_early beyond decided exact) nothing = possibly_beyond beyond decided exact
+  kept taken (taken_walked undecided right) nothing =
+      possibly_within undecided (λ beyond. nothing beyond (undecided beyond)) right
 
-  -- if it isn't answered by height
-  pub kept_if_not : (by_height : Bool) (taken : PossiblyAnswer)
-      → (IsTrue by_height ↔ IsByHeightBeyond document r predicate) → by_height ≡ false
-      → IsTaken document r predicate taken → AnswersPossibly document r predicate (possibly_answer_view taken)
-  kept_if_not by_height taken tells not_so is =
-      kept taken is (λ beyond undecided sums level said.
-      false≢true (sym not_so ∙ tells.1 (beyond, (undecided, sums))))
+  -- if nothing is asked beyond it
+  pub kept_unasked : (taken : PossiblyAnswer) → document.beyond_width ≡ false → IsTaken document r predicate taken
+      → AnswersPossibly document r predicate (possibly_answer_view taken)
+  kept_unasked taken unasked is = kept taken is (λ beyond. absurd (false≢true (sym unasked ∙ beyond)))
 
   -- if it is known
   pub kept_if_known : (taken : PossiblyAnswer)
       → ((level : ℕ) → ¬ (possibly_answer_view taken ≡ PossiblyUnknown level)) → IsTaken document r predicate taken
       → AnswersPossibly document r predicate (possibly_answer_view taken)
-  kept_if_known taken known is = kept taken is (λ beyond undecided sums level. known level)
+  kept_if_known taken known is = kept taken is (λ beyond undecided. record {
+    not_by_sums = λ level said. absurd (known level said);
+    none = λ level said. absurd (known level said);
+  })
 
-  -- by height
-  pub by_height_answers : (level : ℕ) (cut : List ℕ) → IsByHeightBeyond document r predicate
-      → IsTaken document r predicate (Unknown level)
-      → IsFirstByHeight r.events (test_of r predicate) cut
+  -- sums don't decide the predicate, if it isn't decided and isn't answered by height
+  not_by_sums : document.beyond_width ≡ true → (IsTrue false ↔ IsByHeightBeyond document r predicate)
+      → (¬ IsPossiblyDecided r predicate) → ¬ IsDecidedBySums r predicate
+  not_by_sums beyond tells undecided sums = false≢true (tells.1 (beyond, (undecided, sums)))
+
+  -- if no cut is found
+  pub kept_if_none : (by_height : Bool) (taken : PossiblyAnswer) → document.beyond_width ≡ true
+      → (IsTrue by_height ↔ IsByHeightBeyond document r predicate) → IsTaken document r predicate taken
+      → (by_height ≡ true → IsLowestCut r predicate None) → (by_height ≡ false → IsTriedCut r predicate None)
+      → AnswersPossibly document r predicate (possibly_answer_view taken)
+  kept_if_none true taken beyond tells is lowest tried = absurd (never_none (tells.0 refl) (lowest refl))
+    where
+      -- some cut satisfies then
+      never_none : IsByHeightBeyond document r predicate → ¬ (¬ Possibly r.events (test_of r predicate))
+      never_none by none = by.1.0 (inr (by.1.1, none))
+  kept_if_none false taken beyond tells is lowest tried =
+      kept taken is (λ asked undecided. record {
+        not_by_sums = λ level said. not_by_sums beyond tells undecided;
+        none = λ level said. tried refl;
+      })
+
+  -- and if one is
+  pub late_cut_answers : (by_height : Bool) (level : ℕ) (cut : List ℕ) → document.beyond_width ≡ true
+      → (IsTrue by_height ↔ IsByHeightBeyond document r predicate) → IsTaken document r predicate (Unknown level)
+      → (by_height ≡ true → IsLowestCut r predicate (Some cut))
+      → (by_height ≡ false → IsTriedCut r predicate (Some cut))
       → AnswersPossibly document r predicate (possibly_answer_view (Yes cut))
-  by_height_answers level cut by (taken_early beyond decided exact) first = absurd exact
-  by_height_answers level cut by (taken_walked undecided right) first =
-      possibly_by_height by.0 by.1.0 by.1.1 level right cut refl first
-
-  -- some cut satisfies then
-  pub never_none : IsByHeightBeyond document r predicate → ¬ (¬ Possibly r.events (test_of r predicate))
-  never_none by none = by.1.0 (inr (by.1.1, none))
+  late_cut_answers by_height level cut beyond tells (taken_early asked decided exact) lowest tried = absurd exact
+  late_cut_answers true level cut beyond tells (taken_walked undecided right) lowest tried =
+      let by : IsByHeightBeyond document r predicate = tells.0 refl in
+      possibly_by_height by.0 by.1.0 by.1.1 level right cut refl (lowest refl)
+  late_cut_answers false level cut beyond tells (taken_walked undecided right) lowest tried =
+      possibly_tried beyond (undecided beyond) (not_by_sums beyond tells (undecided beyond)) level right cut refl
+      (tried refl)
 
   -- ---- Definitely
 

@@ -1,6 +1,6 @@
 -- What is decided of predicates before the walk, and which answer is taken.
 use Rattle.std.specs.Borrow.{Bor}
-use Rattle.std.specs.Prelude.{◌≡◌, ◌⊎◌, ℕ, ◌<◌, ◌↔◌, IsTrue, true, List, ◌++◌, length, slice_index_or, Option, Some, None}
+use Rattle.std.specs.Prelude.{◌≡◌, ◌⊎◌, ℕ, ◌<◌, ◌↔◌, IsTrue, true, List, ◌++◌, length, slice_index_or, MatchOption, Option, Some, None}
 use Rattle.pd_engine.specs.declared.early.Early.{Early}
 use Rattle.def_format.specs.Documents.{Document}
 use Rattle.walk_back.specs.Answers.{definitely_answer_view, possibly_answer_view}
@@ -8,7 +8,10 @@ use Rattle.walk_back.specs.declared.answers.Answers.{Answers}
 use Rattle.walk_back.specs.declared.definitely_answer.DefinitelyAnswer.{DefinitelyAnswer}
 use Rattle.walk_back.specs.declared.possibly_answer.PossiblyAnswer.{PossiblyAnswer}
 use Rattle.def_model.specs.Answers.{IsDefinitelyAnswer, IsExactPossibly, IsPossiblyAnswer}
+use Rattle.def_model.specs.Observations.{Possibly}
 use Rattle.def_wide.specs.Decided.{IsPossiblyDecided}
+use Rattle.def_wide.specs.Heights.{IsFirstByHeight}
+use Rattle.def_wide.specs.Tried.{IsFirstTried}
 use Rattle.def_model.specs.Predicates.{Predicate, Recorded, test_of}
 use Rattle.pd_pred.specs.Views.{predicate_view}
 use Rattle.pd_pred.specs.declared.predicate.Pred.{Pred}
@@ -39,6 +42,17 @@ IsEarlyLate document r predicate late =
 -- The document asks for answers beyond its width, and the predicate isn't decided so, but by sums.
 abbrev pub IsByHeightBeyond : Document → Recorded → Predicate → Type 0
 IsByHeightBeyond document r predicate = (document.beyond_width ≡ true) × IsByHeight r predicate
+
+-- the first satisfying cut by height, or none satisfies
+abbrev pub IsLowestCut : Recorded → Predicate → Option (List ℕ) → Type 0
+IsLowestCut r predicate found =
+    MatchOption found (¬ Possibly r.events (test_of r predicate)) (IsFirstByHeight r.events (test_of r predicate))
+
+-- the first tried cut, or no tried one satisfies
+abbrev pub IsTriedCut : Recorded → Predicate → Option (List ℕ) → Type 0
+IsTriedCut r predicate found =
+    MatchOption found ((cut : List ℕ) → ¬ IsFirstTried r.events (test_of r predicate) cut)
+    (IsFirstTried r.events (test_of r predicate))
 
 -- an answer is left to the walk
 abbrev pub IsLeft : Early → Type 0

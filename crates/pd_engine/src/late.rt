@@ -1,46 +1,69 @@
 //! What is answered where the walk leaves it unknown.
 ghost use Rattle.def_judgement.specs.Judgements.{AnswersDefinitely, AnswersPossibly};
-ghost use Rattle.pd_engine.specs.Early.{IsByHeightBeyond, IsEarlyLate, IsTaken, IsTakenDefinitely};
+ghost use Rattle.def_wide.specs.Sums.{IsDecidedBySums};
+ghost use Rattle.pd_engine.specs.Early.{IsByHeightBeyond, IsEarlyLate, IsLowestCut, IsTaken, IsTakenDefinitely, IsTriedCut};
 ghost use Rattle.pd_pred.specs.Views.{predicate_view};
 ghost use Rattle.pd_spec.specs.Views.{document_view};
 ghost use Rattle.walk_back.specs.Answers.{definitely_answer_view, possibly_answer_view};
-ghost use Rattle.std.specs.Prelude.{◌≡◌, ◌↔◌, IfOk, IsTrue, unwrap_or};
+ghost use Rattle.std.specs.Prelude.{◌≡◌, ◌↔◌, IfOk, IsTrue, false, true, unwrap_or};
 
-use pd_clock::Computation;
+use pd_clock::{Computation, Cut};
 use pd_pred::Pred;
 use pd_spec::Spec;
 use std::alloc::{AllocError, Global};
 use walk_back::{DefinitelyAnswer, PossiblyAnswer};
+use wide_gates::first_tried;
 use wide_sums::first_by_sums;
 
-/// The answer in place of one that the walk left unknown: yes, with the first satisfying cut by height, if that is the
-/// answer. The document is there for the contract alone.
+/// A satisfying cut in place of an answer that is left unknown: the first by height, if sums decide the predicate, and
+/// else the first tried one.
+///
+/// # Errors
+/// An allocation was refused.
+fn cut_beyond(
+    alloc: Global,
+    computation: &Computation<'_>,
+    pred: &Pred,
+    by_height: bool,
+) -> Result<Option<Cut>, AllocError>
+    requires { by_height ≡ true → IsDecidedBySums computation.now (predicate_view pred.now) }
+    ensures by_height { by_height ≡ true → IfOk result (IsLowestCut computation.now (predicate_view pred.now)) }
+    ensures tried { by_height ≡ false → IfOk result (IsTriedCut computation.now (predicate_view pred.now)) }
+{
+    if by_height {
+        return first_by_sums(alloc, computation, pred.tree());
+    }
+    first_tried(alloc, computation, pred)
+}
+
+/// The answer in place of one that the walk left unknown, if the document asks for that: yes, with the first satisfying
+/// cut by height, if sums decide the predicate, and else with the first tried cut that satisfies, if one does.
 ///
 /// # Errors
 /// An allocation was refused.
 pub(crate) fn late_possibly(
     alloc: Global,
-    _spec: &Spec,
+    spec: &Spec,
     computation: &Computation<'_>,
     pred: &Pred,
     by_height: bool,
     taken: &PossiblyAnswer,
 ) -> Result<Option<PossiblyAnswer>, AllocError>
     requires by_height { IsTrue by_height
-        ↔ IsByHeightBeyond (document_view _spec.now) computation.now (predicate_view pred.now) }
-    requires taken { IsTaken (document_view _spec.now) computation.now (predicate_view pred.now) taken.now }
-    ensures { IfOk result (λ late. AnswersPossibly (document_view _spec.now) computation.now (predicate_view pred.now)
+        ↔ IsByHeightBeyond (document_view spec.now) computation.now (predicate_view pred.now) }
+    requires taken { IsTaken (document_view spec.now) computation.now (predicate_view pred.now) taken.now }
+    ensures { IfOk result (λ late. AnswersPossibly (document_view spec.now) computation.now (predicate_view pred.now)
         (possibly_answer_view (unwrap_or late taken.now))) }
 {
-    if !by_height {
+    let is_asked = spec.beyond_width();
+    if !is_asked {
         return Ok(None);
     }
     match taken {
         PossiblyAnswer::Unknown(_) => {
-            let first = first_by_sums(alloc, computation, pred.tree())?;
-            match first {
+            let found = cut_beyond(alloc, computation, pred, by_height)?;
+            match found {
                 Some(cut) => Ok(Some(PossiblyAnswer::Yes(cut))),
-                // it would be decided that no cut satisfies
                 None => Ok(None),
             }
         }

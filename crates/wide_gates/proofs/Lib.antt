@@ -8,3 +8,7 @@ mod Products
 mod Counting
 mod Surely
 mod LeastGate
+mod EndCounts
+mod SeenCuts
+mod WaysBack
+mod TriedCuts

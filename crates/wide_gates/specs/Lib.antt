@@ -11,3 +11,5 @@ pub mod Excluded
 pub mod Flags
 pub mod Sure
 pub mod Least
+pub mod Ends
+pub mod Seen

@@ -1,4 +1,6 @@
 //! Gates: events right before or right after which a predicate surely holds, as its comparisons tell, each by itself.
+//! And tried cuts: the first satisfying one of the least and the greatest cuts right before and right after each event,
+//! and of those on one way back from the full cut.
 //!
 //! The counts right after an event have of each other process what happened before the event, and nothing that it
 //! happened before, and right before it they have one event less of its own process. So of each process they may have
@@ -16,9 +18,14 @@
 //! - `excluded`: which comparisons are excluded by the greatest excess
 //! - `sure`: where a predicate surely has a value
 //! - `least`: the least level at which it surely holds
+//! - `ends`: the least and the greatest counts there
+//! - `seen`: the first of the cuts that were looked at
+//! - `way`: the cuts on the way back
+//! - `tried`: the first tried cut that satisfies a predicate
 #![tactic(auto)]
 
 mod boxes;
+mod ends;
 mod excluded;
 mod flags;
 mod greatest;
@@ -27,8 +34,12 @@ mod least;
 mod levels;
 mod range;
 mod rows;
+mod seen;
 mod spot;
 mod sure;
 mod table;
+mod tried;
+mod way;
 
 pub use least::least_gate;
+pub use tried::first_tried;
