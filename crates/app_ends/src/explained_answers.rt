@@ -1,4 +1,8 @@
 //! Explains the answers of a session, by what was read of it.
+ghost use Rattle.app_answers.specs.Sessions.{IsJudged};
+ghost use Rattle.pd_spec.specs.Views.{document_view};
+ghost use Rattle.read_traces.specs.SessionTraces.{AreTraces};
+
 use app_answers::{Session, explain_known, warn};
 use app_explain::{Judged, Seen, SeenStream, explain_answers, joined_name};
 use app_text::Source;
@@ -6,6 +10,7 @@ use judge_draw::read_session;
 use judge_session::{Inquiry, computation_of};
 use pd_report::Answer;
 use pd_spec::{Options, Spec};
+use read_traces::Trace;
 use std::alloc::{AllocError, Global};
 use std::random::RandomSource;
 use std::sync::Wait;
@@ -59,16 +64,44 @@ fn sources_of<'a>(
 }
 
 /// Explains the answers of a session by what it says.
-fn put_session(
+fn put_session<R: RandomSource>(
     out: &mut Vec<u8>,
+    rt: &R,
     alloc: Global,
     session: &Session<'_, '_>,
     judged: Judged,
     answers: &[Answer],
-) -> Result<(), AllocError> {
-    explain_known(out, alloc, session, answers)?;
+) -> Result<(), AllocError>
+    requires { IsJudged session.now }
+{
+    explain_known(out, rt, alloc, session, answers)?;
     explain_answers(out, answers, judged)?;
     warn(out, alloc, session)
+}
+
+/// The same of these traces. If they make no computation, what is unknown is said.
+fn put_traces<R: RandomSource>(
+    out: &mut Vec<u8>,
+    rt: &R,
+    alloc: Global,
+    spec: &Spec,
+    traces: &[Trace],
+    sources: &[Option<Source<'_>>],
+    judged: Judged,
+    answers: &[Answer],
+) -> Result<(), AllocError>
+    requires { AreTraces (document_view spec.now).names traces.now }
+{
+    let Ok(formed) = computation_of(rt, alloc, spec, traces) else {
+        return explain_answers(out, answers, judged);
+    };
+    let session = Session {
+        spec,
+        traces,
+        computation: &formed.0,
+        sources,
+    };
+    put_session(out, rt, alloc, &session, judged, answers)
 }
 
 /// The same of the session of this document and these streams. If it can't be read again, what is unknown is said.
@@ -87,17 +120,17 @@ fn put_read<T: RandomSource + Threads + Wait + Sync>(
     let Ok(read) = read_session(rt, alloc, inquiry, streams) else {
         return explain_answers(out, answers, judged);
     };
-    let Ok((computation, _)) = computation_of(rt, alloc, &read.spec, &read.traces) else {
-        return explain_answers(out, answers, judged);
-    };
     let sources = sources_of(alloc, &read.spec, seen.streams)?;
-    let session = Session {
-        spec: &read.spec,
-        traces: &read.traces,
-        computation: &computation,
-        sources: &sources,
-    };
-    put_session(out, alloc, &session, judged, answers)
+    put_traces(
+        out,
+        rt,
+        alloc,
+        &read.spec,
+        &read.traces,
+        &sources,
+        judged,
+        answers,
+    )
 }
 
 /// Explains the answers of a session that was judged: what can happen, where and why, what can't, and what is unknown;
