@@ -44,8 +44,8 @@ fn least_flagged(numbers: &[u64], flags: &[bool]) -> Option<u64>
 ///
 /// It takes some steps for each event and comparison, and some for each process and event that a message leaves or
 /// reaches. It keeps about 150 bytes for each event, a hundred more for each that a message leaves or reaches, and two
-/// more for each level of parentheses; and for each event of a process whose numbers fall in a comparison, some 16 for
-/// each bit of the number of these events.
+/// more for each level of parentheses; and for the events of one process at a time, whose numbers fall in a comparison,
+/// some 16 for each of them and each bit of their number.
 ///
 /// # Errors
 /// An allocation was refused.
