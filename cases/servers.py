@@ -502,8 +502,7 @@ def cases():
     yield "beyond width 1", two, options, (0, REPORT, b"")
     yield "beyond width 1, by 4 workers", two, {**options, "workers": 4}, (0, REPORT, b"")
     options = {"document": BROADCAST[:-1] + b',"width":1}', "beyond": True}
-    undecided = OF_BROADCAST.replace(b"possibly yes 1,0,1", b"possibly unknown 2")
-    yield "beyond width 1, and not decided", three, options, (0, undecided, b"")
+    yield "beyond width 1, by a tried cut", three, options, (0, OF_BROADCAST, b"")
     options = {"document": NARROW, "watchers": 1, "asked": ["--width", "9"]}
     yield "width 1, and another is asked", two, options, (0, REPORT, b"")
     options = {"document": NARROW, "watchers": 1, "asked": ["--width", "9", "--ask", "a.x == 1 and b.y == 1"]}

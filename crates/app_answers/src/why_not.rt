@@ -115,7 +115,9 @@ fn say_stateless(
         " cannot happen, whatever the messages are: it is false for all values that ",
     )?;
     say_named(out, session, tree)?;
-    say(out, " have at any time.\n")?;
+    let is_one = named_count(tree, session.computation.processes()) == 1;
+    say(out, if is_one { " has" } else { " have" })?;
+    say(out, " at any time.\n")?;
     if !names_several(session, tree) {
         return Ok(());
     }
