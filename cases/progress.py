@@ -31,7 +31,8 @@ LOAD, LAST, LAST_LINE = "heavy", 496, b'{"end": true}\n'
 TRIES, PATIENCE = 5, 1.1
 CLEARED = b"\r\x1b[K"
 # What is explained of the answer about the bundle.
-EXPLAINED = b"`high` cannot happen: it is false in every global state that fits the messages.\n"
+EXPLAINED = (b"`high` cannot happen, whatever the messages are: it is false for all values that\n"
+             b"  `a` has at any time.\n")
 BYTES = re.compile(rb"\r\x1b\[Kreading: \d+\.\d( of \d+\.\d)? MB")
 LEVEL = re.compile(rb"\r\x1b\[Klevel (\d+) of (\d+): \d+ cuts")
 
