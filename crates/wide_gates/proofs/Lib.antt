@@ -2,7 +2,6 @@
 mod Pushes
 mod Beside
 mod Sharing
-mod Unnamed
 mod Widths
 mod Products
 mod Counting

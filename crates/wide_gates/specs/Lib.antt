@@ -2,7 +2,6 @@
 pub mod Spots
 pub mod Highs
 pub mod Ranges
-pub mod Rows
 pub mod Tables
 pub mod Boxes
 pub mod Greatest

@@ -12,7 +12,6 @@
 //! - `range`: which counts a process may have around an event
 //! - `boxes`: the ranges of the processes around each event
 //! - `table`: the greatest number of a row between two counts
-//! - `rows`: what each process adds to a sum, by the count of its events
 //! - `greatest`: the greatest sum of rows right before and right after each event
 //! - `levels`: the greatest number of events there
 //! - `excluded`: which comparisons are excluded by the greatest excess
@@ -33,7 +32,6 @@ mod high;
 mod least;
 mod levels;
 mod range;
-mod rows;
 mod seen;
 mod spot;
 mod sure;

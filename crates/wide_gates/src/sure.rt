@@ -12,11 +12,11 @@ use super::boxes::Boxes;
 use super::excluded::{excluding, is_excluded, is_of_above, is_of_below};
 use super::flags::{all, both, either};
 use super::greatest::greatest_sums;
-use super::rows::rows_of;
 use super::spot::Spot;
 use pd_clock::Computation;
 use pd_pred::{Comparison, Sum, Tree};
 use std::alloc::{AllocError, Global};
+use wide_sums::values_of;
 
 /// By how much one sum is more than another at most at each spot.
 fn greatest_excess(
@@ -35,7 +35,7 @@ fn greatest_excess(
     ensures { IfOk result (λ sums. AreMostExcess computation.now spots.now (sum_view left.now) (sum_view right.now)
         sums.items) }
 {
-    let values = rows_of(alloc, computation, left, right)?;
+    let values = values_of(alloc, computation, left, right)?;
     let sums = greatest_sums(alloc, computation, spots, boxes, &values)?;
     Ok(sums)
 }

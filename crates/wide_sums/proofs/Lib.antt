@@ -3,6 +3,7 @@ pub mod Reading
 pub mod Making
 pub mod Below
 pub mod Adding
+pub mod Unnamed
 pub mod Placing
 pub mod Splitting
 pub mod ByExcess

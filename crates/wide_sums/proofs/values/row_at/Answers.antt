@@ -2,8 +2,8 @@
 use Rattle.std.proofs.Common.{nat_eq, subst, sym}
 use Rattle.pd_pred.specs.Trees.{sum_view}
 use Rattle.wide_pairs.specs.Parts.{IsRowOf}
-use Rattle.wide_gates.proofs.Unnamed.{empty_row}
-use Rattle.wide_gates.proofs.rows.row_at.Goals as goal
+use Rattle.wide_sums.proofs.Unnamed.{empty_row}
+use Rattle.wide_sums.proofs.values.row_at.Goals as goal
 
 pub returns-then-names_none-2 : goal.returns-then-names_none-2
 returns-then-names_none-2 c =

@@ -4,7 +4,7 @@ use Rattle.std.proofs.lemmas.Int.{ints}
 use Rattle.std.proofs.lemmas.Bool.Decides.{nat_tests}
 use Rattle.def_model.specs.Predicates.{Sign, Plus, Minus, Term, Number, Variable, Times, Recorded, signed}
 use Rattle.wide_pairs.specs.Parts.{IsRowOf, part_value, parts_value, value_after}
-use Rattle.wide_gates.specs.Rows.{NamesAnother, NoneNames}
+use Rattle.wide_sums.specs.Unnamed.{NamesAnother, NoneNames}
 
 is_other : (q p : ℕ) → q ≢ p → nat_eq q p ≡ false
 is_other q p apart = grind (arith, nat_tests, apart)
