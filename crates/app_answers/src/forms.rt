@@ -3,51 +3,21 @@
 //! The crates `wide_terms`, `wide_pairs` and `wide_sums` decide. This crate doesn't stand on them: for what is said it
 //! asks the predicate alone.
 ghost use Rattle.def_model.specs.Decided.{IsOr, term_count};
-ghost use Rattle.judge_facts.specs.Named.{term_names_of, terms_name_of};
-ghost use Rattle.pd_pred.specs.Trees.{sum_view, term_view, tree_view};
-ghost use Rattle.std.specs.List.{list_any};
+ghost use Rattle.pd_pred.specs.Trees.{tree_view};
 ghost use Rattle.std.specs.Prelude.{◌≡◌, ◌+◌, ◌*◌, ◌↔◌, IsTrue, cond, min};
 
 use super::possible::named_count;
-use pd_pred::{Comparison, SignedTerm, Sum, Term, Tree};
+use judge_facts::sum_names_process;
+use pd_pred::{Comparison, Sum, Tree};
 
 /// How many terms a predicate may have that rules decide.
 const TERM_LIMIT: u64 = 4_096;
-
-/// Whether a term names a variable of this process.
-fn term_names(term: Term, process: usize) -> bool
-    ensures { result ≡ term_names_of process (term_view term) }
-{
-    match term {
-        Term::Number(_) => false,
-        Term::Variable { process: p, var: _ } => p == process,
-        Term::Times {
-            factor: _,
-            process: p,
-            var: _,
-        } => p == process,
-    }
-}
-
-/// Whether one of these terms names a variable of this process.
-fn any_names(terms: &[SignedTerm], process: usize) -> bool
-    ensures { result ≡ list_any (λ signed. term_names_of process (term_view signed.term)) terms.now }
-{
-    terms.iter().any(|signed| term_names(signed.term, process))
-}
-
-/// Whether a term of a sum names a variable of this process.
-fn sum_names(sum: &Sum, process: usize) -> bool
-    ensures { result ≡ terms_name_of process (sum_view sum.now) }
-{
-    any_names(&sum.terms, process)
-}
 
 /// Whether a comparison of two sums names several of this many processes.
 fn names_several(left: &Sum, right: &Sum, processes: usize) -> bool {
     let mut is_found = false;
     for process in 0..processes {
-        if sum_names(left, process) || sum_names(right, process) {
+        if sum_names_process(left, process) || sum_names_process(right, process) {
             if is_found {
                 return true;
             }

@@ -1,31 +1,10 @@
 -- What the variables that a predicate names are worth, in words.
-use Rattle.std.specs.Prelude.{ℕ, zero, suc, ℤ, Bool, false, ◌||◌, ◌&&◌, nat_eq, if◌then◌else◌, List, [], ◌∷◌, ◌++◌, length, codes, Option, Some, None, slice_index_or}
+use Rattle.std.specs.Prelude.{ℕ, zero, suc, ℤ, if◌then◌else◌, List, [], ◌∷◌, ◌++◌, length, codes, Option, Some, None, slice_index_or}
 use Rattle.std.specs.Fmt.{signed_decimal}
-use Rattle.std.specs.List.{list_any}
-use Rattle.def_model.specs.Predicates.{Predicate, Sign, Term, Number, Variable, Times, Always, Never, Compare, Not, And, Or}
+use Rattle.def_model.specs.Predicates.{Predicate}
 use Rattle.def_format.specs.Names.{ProcessNames, vars_of}
+use Rattle.judge_facts.specs.Named.{names_variable}
 use Rattle.out_picture.specs.Layout.{upto}
-
--- ---- the variables that a predicate names
-
-abbrev pub term_names : (process var : ℕ) → Term → Bool
-term_names process var (Number n) = false
-term_names process var (Variable p v) = nat_eq p process && nat_eq v var
-term_names process var (Times n p v) = nat_eq p process && nat_eq v var
-
-abbrev pub terms_name : (process var : ℕ) → List (Sign × Term) → Bool
-terms_name process var terms = list_any (λ (signed : Sign × Term). term_names process var signed.1) terms
-
-abbrev pub names_variable : (process var : ℕ) → Predicate → Bool
-names_variable process var Always = false
-names_variable process var Never = false
-names_variable process var (Compare left comparison right) =
-    terms_name process var left || terms_name process var right
-names_variable process var (Not inner) = names_variable process var inner
-names_variable process var (And left right) = names_variable process var left || names_variable process var right
-names_variable process var (Or left right) = names_variable process var left || names_variable process var right
-
--- ---- their values in words
 
 abbrev pub shown_value : (name : List ℕ) → ℤ → List ℕ
 shown_value name value = name ++ codes " = " ++ signed_decimal value

@@ -21,7 +21,7 @@ mod values;
 
 pub use deeds::{has_event, kind_at};
 pub use links::{has_links, leads_to};
-pub use named::{names_process, names_variable};
+pub use named::{names_process, names_variable, sum_names_process};
 pub use runs::first_run;
 pub use settings::is_set;
 pub use values::named_values;

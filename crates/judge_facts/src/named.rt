@@ -77,8 +77,8 @@ fn any_names_of(terms: &[SignedTerm], process: usize) -> bool
         .any(|signed| term_names_of(signed.term, process))
 }
 
-/// Whether a term of a sum names a variable of this process.
-fn sum_names_of(sum: &Sum, process: usize) -> bool
+/// Whether a term of a sum names a variable of process `process`, which is counted from 0.
+pub fn sum_names_process(sum: &Sum, process: usize) -> bool
     ensures { result ≡ terms_name_of process (sum_view sum.now) }
 {
     any_names_of(&sum.terms, process)
@@ -91,7 +91,7 @@ pub fn names_process(tree: &Tree, process: usize) -> bool
     match tree {
         Tree::Always | Tree::Never => false,
         Tree::Compare { left, right, .. } => {
-            sum_names_of(left, process) || sum_names_of(right, process)
+            sum_names_process(left, process) || sum_names_process(right, process)
         }
         Tree::Not(inner) => names_process(inner, process),
         Tree::And(left, right) | Tree::Or(left, right) => {

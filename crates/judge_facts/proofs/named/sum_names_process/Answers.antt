@@ -5,13 +5,13 @@ use Rattle.def_format.proofs.ListTests.{list_any-map}
 use Rattle.def_model.specs.Predicates.{Sign, Term}
 use Rattle.pd_pred.specs.Trees.{signed_term_view, term_view}
 use Rattle.pd_pred.specs.declared.tree.SignedTerm.{SignedTerm}
-use Rattle.judge_draw.specs.Values.{term_names}
-use Rattle.judge_draw.proofs.values.sum_names.Goals as goal
+use Rattle.judge_facts.specs.Named.{term_names_of}
+use Rattle.judge_facts.proofs.named.sum_names_process.Goals as goal
 
 pub returns : goal.returns
 returns c =
-    c.any_names.ensures
-    ∙ (ap (list_any (λ (signed : SignedTerm). term_names c.args.process c.args.var (term_view signed.term)))
+    c.any_names_of.ensures
+    ∙ (ap (list_any (λ (signed : SignedTerm). term_names_of c.args.process (term_view signed.term)))
     c.deref.ensures.value
-    ∙ sym (list_any-map (λ (signed : Sign × Term). term_names c.args.process c.args.var signed.1) signed_term_view
+    ∙ sym (list_any-map (λ (signed : Sign × Term). term_names_of c.args.process signed.1) signed_term_view
     c.args.sum.now.terms.items))
