@@ -151,7 +151,8 @@ width_of_example = refl
 
 -- what is asked stands in place of what the document says
 abbrev asked : Options
-asked = record { width = Some 7; predicates = codes "a.x == 2" ∷ []; beyond_width = false }
+asked =
+    record { width = Some 7; predicates = codes "a.x == 2" ∷ codes "both=a.x == 1" ∷ []; beyond_width = false }
 
 pub width_asked : with_outline (λ (o : Outline). width_of o.width) (outline_of_inquiry
     (inquiry_of asked example_document))
@@ -161,7 +162,7 @@ width_asked = refl
 
 pub predicates_asked : with_outline (λ (o : Outline). o.predicates) (outline_of_inquiry
     (inquiry_of asked example_document))
-    ≡ Some ((codes "ask1", codes "a.x == 2") ∷ [])
+    ≡ Some ((codes "ask1", codes "a.x == 2") ∷ (codes "both", codes "a.x == 1") ∷ [])
 unfolding on_lines
 predicates_asked = refl
 

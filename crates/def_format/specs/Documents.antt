@@ -1,6 +1,6 @@
 -- The session document.
-use Rattle.std.specs.Prelude.{◌≡◌, ℕ, ◌+◌, Bool, true, false, not, ◌&&◌, ◌||◌, nat_eq, nat_le, nat_lt, if◌then◌else◌, List, [], ◌∷◌, ◌++◌, length, map, codes, decimal, ℤ, pos, negsuc, Option, Some, None, is_some, option_map, option_and_then, unwrap_or, Result, Ok, Err}
-use Rattle.std.specs.List.{list_all, AllZip, AllByRecursion}
+use Rattle.std.specs.Prelude.{◌≡◌, ℕ, ◌+◌, Bool, true, false, not, ◌&&◌, ◌||◌, ◌==◌, nat_eq, nat_le, nat_lt, if◌then◌else◌, List, [], ◌∷◌, ◌++◌, length, map, codes, decimal, ℤ, pos, negsuc, Option, Some, None, is_some, option_map, option_and_then, unwrap_or, Result, Ok, Err}
+use Rattle.std.specs.List.{list_all, list_any, AllZip, AllByRecursion, before_first, after_first}
 use Rattle.serde_json.specs.Data.{Data, null, boolean, number, string, array, object, unsigned, Items, no_items, item, Members, no_members, member, put}
 use Rattle.serde_json.specs.Find.{get_member, as_str, as_object, as_array}
 use Rattle.def_model.specs.Messages.{Version, One, Two}
@@ -127,8 +127,8 @@ outline_of_json (Some value) = checked_outline (outline_of value)
 
 -- ---- options
 
--- What is asked of a session beside its document: a width and texts of predicates in place of those that the document
--- has, and whether a predicate that is decided without levels is answered whatever the width.
+-- What is asked of a session beside its document: a width and predicates in place of those that the document has, each
+-- a text or `NAME=TEXT`, and whether a predicate that is decided without levels is answered whatever the width.
 pub record Options : Type 0 where
   pub width : Option ℕ
   pub predicates : List (List ℕ)
@@ -138,12 +138,39 @@ pub record Options : Type 0 where
 abbrev pub no_options : Options
 no_options = record { width = None; predicates = []; beyond_width = false }
 
--- the predicate of this number with this text, as a document has it
-abbrev pub asked_predicate : ℕ → List ℕ → Data
-asked_predicate n text =
-    object (member (codes "name") (string (codes "ask" ++ decimal n)) (member (codes "text") (string text) no_members))
+-- the sign between the name and the text of a predicate that is asked
+abbrev pub is_equals_sign : ℕ → Bool
+is_equals_sign byte = byte == 61
 
--- the predicates with these texts, numbered from this number on
+abbrev pub begins_with_equals_sign : List ℕ → Bool
+begins_with_equals_sign [] = false
+begins_with_equals_sign (byte ∷ rest) = is_equals_sign byte
+
+-- Whether what is asked is `NAME=TEXT`: before its first `=` stands a name, and after it no second `=`. No predicate
+-- begins so.
+abbrev pub has_own_name : List ℕ → Bool
+has_own_name asked =
+    list_any is_equals_sign asked
+    && is_name (before_first is_equals_sign asked)
+    && not (begins_with_equals_sign (after_first is_equals_sign asked))
+
+-- the name of the predicate of this number that is asked
+abbrev pub asked_name : ℕ → List ℕ → List ℕ
+asked_name n asked =
+    if has_own_name asked then before_first is_equals_sign asked else codes "ask" ++ decimal n
+
+-- its text
+abbrev pub asked_text : List ℕ → List ℕ
+asked_text asked = if has_own_name asked then after_first is_equals_sign asked else asked
+
+-- the predicate of this number that is asked, as a document has it
+abbrev pub asked_predicate : ℕ → List ℕ → Data
+asked_predicate n asked =
+    object (
+    member (codes "name") (string (asked_name n asked)) (
+    member (codes "text") (string (asked_text asked)) no_members))
+
+-- the predicates that are asked, numbered from this number on
 abbrev pub asked_predicates : ℕ → List (List ℕ) → Items
 asked_predicates n [] = no_items
 asked_predicates n (text ∷ texts) = item (asked_predicate n text) (asked_predicates (n + 1) texts)

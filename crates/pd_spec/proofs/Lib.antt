@@ -9,6 +9,7 @@ pub mod Each
 pub mod Faultless
 pub mod InitialValues
 pub mod OutlineViews
+pub mod OwnNames
 pub mod PredicateFaults
 pub mod Rows
 pub mod TwiceLemmas

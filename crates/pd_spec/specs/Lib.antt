@@ -2,6 +2,7 @@ pub mod Outlines
 pub mod DocumentParts
 pub mod Faults
 pub mod Named
+pub mod OwnNames
 pub mod Predicates
 pub mod Sound
 pub mod Texts

@@ -1,16 +1,46 @@
 //! A document's JSON value with what is asked in place of what it has.
-ghost use Rattle.std.specs.Prelude.{◌≡◌, ◌++◌, IfOk, OnOk, codes, decimal, map, string_bytes};
+ghost use Rattle.std.specs.Prelude.{◌≡◌, ◌++◌, ◌&&◌, not, IfOk, OnOk, codes, decimal, map, string_bytes};
 ghost use Rattle.serde_json.specs.View.{items_view, members_view, view};
-ghost use Rattle.def_format.specs.Documents.{asked_predicate, asked_predicates, fields_with_options, with_options, with_predicates, with_width};
+ghost use Rattle.def_format.specs.Documents.{asked_predicate, asked_predicates, begins_with_equals_sign, fields_with_options, with_options, with_predicates, with_width};
+ghost use Rattle.def_format.specs.Names.{is_name};
+ghost use Rattle.pd_spec.specs.OwnNames.{IsOwnName, named_text};
 ghost use Rattle.pd_spec.specs.Views.{options_view};
 
 use super::options::Options;
 use itoa::Buffer;
+use pd_pred::is_name;
 use serde_json::{Map, Value};
 use std::alloc::{AllocError, Global};
 
-/// The name of the predicate of this number.
-fn asked_name(alloc: Global, number: u64) -> Result<String, AllocError>
+/// Whether `=` is the first byte.
+fn begins_with_equals_sign(bytes: &[u8]) -> bool
+    ensures { result ≡ begins_with_equals_sign bytes.now }
+{
+    matches!(bytes, [b'=', ..])
+}
+
+/// Whether what stands before a sign is a name, and no second sign begins what stands after it.
+fn are_name_and_text(before: &str, after: &str) -> bool
+    ensures { result ≡ is_name before.now && not (begins_with_equals_sign after.now) }
+{
+    is_name(before.as_bytes()) && !begins_with_equals_sign(after.as_bytes())
+}
+
+/// The name and the text of what is asked, if it is `NAME=TEXT`.
+fn own_name(asked: &str) -> Option<(&str, &str)>
+    ensures { IsOwnName asked.now result }
+{
+    let Some((name, text)) = asked.split_once('=') else {
+        return None;
+    };
+    if are_name_and_text(name, text) {
+        return Some((name, text));
+    }
+    None
+}
+
+/// The name of the predicate of this number, if it has none of its own.
+fn name_of_number(alloc: Global, number: u64) -> Result<String, AllocError>
     ensures { IfOk result (λ name. string_bytes name ≡ codes "ask" ++ decimal number) }
 {
     let mut name = String::from_str(alloc, "ask")?;
@@ -18,15 +48,12 @@ fn asked_name(alloc: Global, number: u64) -> Result<String, AllocError>
     Ok(name)
 }
 
-/// The predicate of this number with this text, as a document has it.
-fn asked_predicate(alloc: Global, number: u64, text: &str) -> Result<Value, AllocError>
-    ensures { IfOk result (λ value. view value ≡ asked_predicate number text.now) }
+/// The predicate with this name and this text, as a document has it.
+fn predicate_of(alloc: Global, name: String, text: &str) -> Result<Value, AllocError>
+    ensures { IfOk result (λ value. view value ≡ named_text (string_bytes name) text.now) }
 {
     let mut fields = Map::new(alloc);
-    fields.insert(
-        String::from_str(alloc, "name")?,
-        Value::String(asked_name(alloc, number)?),
-    )?;
+    fields.insert(String::from_str(alloc, "name")?, Value::String(name))?;
     fields.insert(
         String::from_str(alloc, "text")?,
         Value::String(String::from_str(alloc, text)?),
@@ -34,7 +61,23 @@ fn asked_predicate(alloc: Global, number: u64, text: &str) -> Result<Value, Allo
     Ok(Value::Object(fields))
 }
 
-/// The predicates with these texts, as a document has them, numbered from 1 on.
+/// The predicate of this number that is asked, as a document has it.
+fn asked_predicate(alloc: Global, number: u64, asked: &str) -> Result<Value, AllocError>
+    ensures { IfOk result (λ value. view value ≡ asked_predicate number asked.now) }
+{
+    match own_name(asked) {
+        Some((name, text)) => {
+            let name = String::from_str(alloc, name)?;
+            predicate_of(alloc, name, text)
+        }
+        None => {
+            let name = name_of_number(alloc, number)?;
+            predicate_of(alloc, name, asked)
+        }
+    }
+}
+
+/// The predicates that are asked, as a document has them, numbered from 1 on.
 fn asked_predicates(alloc: Global, texts: &[&str]) -> Result<Vec<Value>, AllocError>
     ensures { IfOk result (λ values. items_view values.items ≡ asked_predicates 1 (map (λ text. text.now) texts.now)) }
 {
