@@ -31,8 +31,6 @@ VALUES = {
     "WIDTH": None,
     "WORKERS": [str(number) for number in range(1, 17)],
 }
-# The option that may stand anywhere, as the end of the program's help says; no help text lists it.
-ANYWHERE = (None, "explain", None, "Explain on the standard error the answers, and what is refused or fails")
 # What the environment may have: that is said at the end of the program's help too.
 VARIABLES = {"MONITOR_EXPLAIN": "If it is 1, the same is explained as with --explain; each other value is as none"}
 MADE = "made by completions/make.py from the program's help"
@@ -70,8 +68,6 @@ def read_helps(program):
     """The help of the program, and that of each command by its name."""
     top = help_of(program)
     helps = {name: help_of(program, name) for name, _ in top.commands if name != "help"}
-    for one in (top, *helps.values()):
-        one.options.append(ANYWHERE)
     for one in helps.values():
         for _, name, value, _ in one.options:
             if value is not None and value not in VALUES:

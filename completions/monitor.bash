@@ -24,7 +24,7 @@ _monitor() {
   case "$current" in --*=*) previous="${current%%=*}" current="${current#*=}" ;; esac
   COMPREPLY=()
   if [ "${#words[@]}" -le 2 ]; then
-    COMPREPLY=($(compgen -W 'judge check draw serve explore help -h --help -V --version --explain' -- "$current"))
+    COMPREPLY=($(compgen -W 'judge check draw serve explore help --explain -h --help -V --version' -- "$current"))
     return
   fi
   case "$previous" in
@@ -55,11 +55,11 @@ _monitor() {
       return ;;
   esac
   case "$command" in
-    judge) options='--width --ask --workers --beyond-width --fail-on -h --help --explain' ;;
-    check) options='--width --ask -h --help --explain' ;;
-    draw) options='--width --ask --predicate --evidence --from --all -h --help --explain' ;;
-    serve) options='--width --ask --port --watchers --wait --keep --workers --beyond-width --fail-on -h --help --explain' ;;
-    explore) options='--width --ask --workers --beyond-width -h --help --explain' ;;
+    judge) options='--explain --width --ask --workers --beyond-width --fail-on -h --help' ;;
+    check) options='--explain --width --ask -h --help' ;;
+    draw) options='--explain --width --ask --predicate --evidence --from --all -h --help' ;;
+    serve) options='--explain --width --ask --port --watchers --wait --keep --workers --beyond-width --fail-on -h --help' ;;
+    explore) options='--explain --width --ask --workers --beyond-width -h --help' ;;
     help)
       COMPREPLY=($(compgen -W 'judge check draw serve explore help' -- "$current"))
       return ;;

@@ -85,6 +85,11 @@ fail_on_rule = record (new_rule (codes "LIST")) { long = Some (codes "fail-on") 
 abbrev pub width_rule : Rule
 width_rule = number_rule (codes "WIDTH") (codes "width") 1 width_limit
 
+-- the flag that asks for explanations: it is taken out of the arguments before they are parsed, and stands here for the
+-- help, and for the word that is meant where one is nearly it
+abbrev pub explain_rule : Rule
+explain_rule = record (new_rule (codes "EXPLAIN")) { long = Some (codes "explain"); action = Some SetTrue }
+
 -- a predicate in place of the document's, again and again
 abbrev pub ask_rule : Rule
 ask_rule = record (new_rule (codes "TEXT")) { long = Some (codes "ask"); action = Some Append }
@@ -105,9 +110,11 @@ from_rule = number_rule (codes "COLUMN") (codes "from") 1 column_number_limit
 abbrev pub all_rule : Rule
 all_rule = record (new_rule (codes "ALL")) { long = Some (codes "all"); action = Some SetTrue }
 
--- `NAME SPEC [--width WIDTH] [--ask TEXT]...`: all that follow have these two options
+-- `NAME SPEC [--explain] [--width WIDTH] [--ask TEXT]...`: all that follow have these three options
 abbrev pub document_app : (name : Text) → App
-document_app name = with_rule (with_rule (with_rule (new_app name) (required_rule (codes "SPEC"))) width_rule) ask_rule
+document_app name =
+    with_rule (with_rule (with_rule (with_rule (new_app name) (required_rule (codes "SPEC"))) explain_rule) width_rule)
+    ask_rule
 
 -- `NAME SPEC REPORT STREAM...`
 abbrev pub report_app : (name : Text) → App
@@ -141,12 +148,12 @@ abbrev pub explore_app : App
 explore_app =
     with_rule (with_rule (with_rule (document_app (codes "explore")) stream_rule) workers_rule) beyond_width_rule
 
--- the program alone, with a version: its name isn't among the arguments that are parsed
+-- `[--explain]`: the program alone, with a version; its name isn't among the arguments that are parsed
 abbrev pub plain_shape : Shape
 plain_shape = record (new_app (codes "monitor")).top { no_binary_name = true; has_version = true }
 
 abbrev pub plain_app : App
-plain_app = record { top = plain_shape; subs = [] }
+plain_app = with_rule (record { top = plain_shape; subs = [] }) explain_rule
 
 -- with its commands
 abbrev pub monitor_app : App

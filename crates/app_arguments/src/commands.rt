@@ -2,7 +2,7 @@
 ghost use Rattle.clap.specs.Simple.{app_of};
 ghost use Rattle.clap.specs.Walk.{rule_of};
 ghost use Rattle.clap.specs.declared.builder.command.Command.TheViews.{out-Command};
-ghost use Rattle.app_arguments.specs.Arguments.{AddsCommand, all_rule, ask_rule, beyond_width_rule, check_app, document_app, draw_app, explore_app, fail_on_rule, from_rule, judge_app, judging_app, keep_rule, kind_rule, monitor_app, number_rule, plain_app, port_rule, predicate_rule, report_app, required_rule, serve_app, stream_rule, wait_rule, watchers_rule, width_rule, workers_rule};
+ghost use Rattle.app_arguments.specs.Arguments.{AddsCommand, all_rule, ask_rule, beyond_width_rule, check_app, document_app, draw_app, explain_rule, explore_app, fail_on_rule, from_rule, judge_app, judging_app, keep_rule, kind_rule, monitor_app, number_rule, plain_app, port_rule, predicate_rule, report_app, required_rule, serve_app, stream_rule, wait_rule, watchers_rule, width_rule, workers_rule};
 ghost use Rattle.app_arguments.specs.Statuses.{IsVersionLine};
 ghost use Rattle.std.specs.Prelude.{◌≡◌, IfOk, false};
 
@@ -303,6 +303,17 @@ fn width_option<'a>(alloc: Global) -> Arg<'a>
     )
 }
 
+/// The flag that asks for explanations.
+fn explain_option<'a>(alloc: Global) -> Arg<'a>
+    ensures rule { rule_of result ≡ explain_rule }
+    ensures local { result.global ≡ false }
+{
+    Arg::new(alloc, "EXPLAIN")
+        .long("explain")
+        .action(ArgAction::SetTrue)
+        .help("Explain the answers, a refusal or what fails, on the standard error")
+}
+
 /// The option that names a predicate in place of the document's, again and again.
 fn ask_option<'a>(alloc: Global) -> Arg<'a>
     ensures rule { rule_of result ≡ ask_rule }
@@ -312,7 +323,8 @@ fn ask_option<'a>(alloc: Global) -> Arg<'a>
         .long("ask")
         .action(ArgAction::Append)
         .help(
-            "A predicate in place of the document's, named ask1; given again, one more, named ask2, and so on",
+            "A predicate in place of the document's, as TEXT or as NAME=TEXT; given again, one more. Without a name \
+the first is ask1, the second ask2",
         )
 }
 
@@ -340,6 +352,7 @@ fn document_command<'a>(
         .about(about)
         .after_help(after_help)
         .arg(file_argument(alloc, "SPEC", "The session document"))?
+        .arg(explain_option(alloc))?
         .arg(width_option(alloc))?
         .arg(ask_option(alloc))
 }
@@ -435,7 +448,8 @@ fn plain_command<'a>(alloc: Global) -> Result<Command<'a>, AllocError>
         .after_help(AFTER)
         .version(VERSION)
         .no_binary_name(true)
-        .bin_name("monitor")
+        .bin_name("monitor")?
+        .arg(explain_option(alloc))
 }
 
 /// The program's command line with this command too, if there was memory for it.

@@ -4,7 +4,7 @@ ghost use Rattle.std.specs.List.{list_any};
 ghost use Rattle.std.specs.Prelude.{◌≡◌, filter, not};
 
 /// The word that asks for explanations.
-pub(crate) const EXPLAIN: &str = "--explain";
+const EXPLAIN: &str = "--explain";
 
 /// Whether an argument is the word that asks for explanations.
 fn is_explain_word(argument: &String) -> bool

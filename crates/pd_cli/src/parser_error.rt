@@ -7,17 +7,14 @@ ghost use Rattle.std.specs.IoError.{error_kind};
 ghost use Rattle.std.specs.Io.KnownBytes.{Keeps};
 ghost use Rattle.std.specs.Prelude.{◌≡◌, ◌≢◌};
 
-use super::explaining::EXPLAIN;
 use app_arguments::version_line;
 use app_host::{MISUSED, SUCCESS, report_fault, write_line};
 use clap::Error;
 use clap::error::ErrorKind;
 use judge_session::EngineFault;
 use pd_report::write_all_counted;
-use std::alloc::{AllocError, Global};
 use std::io;
 use std::io::{ErrorKind as IoErrorKind, Write};
-use strsim::osa_distance;
 
 /// Writes the text that was asked for, and flushes the output.
 fn show<O: Write>(text: &Error, output: &mut O) -> io::Result<()> {
@@ -52,41 +49,9 @@ fn report_version<O: Write, E: Write>(output: &mut O, errors: &mut E) -> u8
     }
 }
 
-/// Whether an argument is nearly the word that asks for explanations: two letters at most are put in, left out,
-/// changed, or exchanged with the next one.
-fn is_nearly_explain(alloc: Global, argument: &str) -> Result<bool, AllocError> {
-    let edits = osa_distance(alloc, argument, EXPLAIN)?;
-    Ok(argument.starts_with('-') && edits <= 2)
-}
-
-/// Whether one of the arguments is nearly that word.
-///
-/// # Errors
-/// Out of memory.
-fn has_nearly_explain(alloc: Global, arguments: &[String]) -> Result<bool, AllocError> {
-    for argument in arguments {
-        if is_nearly_explain(alloc, argument)? {
-            return Ok(true);
-        }
-    }
-    Ok(false)
-}
-
-/// Writes that there is a word that asks for explanations, if an argument is unknown and one is nearly that word: the
-/// parser doesn't know it, since it is taken out before.
-fn write_tip<E: Write>(alloc: Global, kind: ErrorKind, arguments: &[String], errors: &mut E) {
-    if let ErrorKind::UnknownArgument = kind {
-        if let Ok(true) = has_nearly_explain(alloc, arguments) {
-            write_line(b"\n  tip: a similar argument exists: '--explain'\n", errors);
-        }
-    }
-}
-
 /// Writes what the parser has to say of these arguments, and gives the exit status: help and the version go to the
 /// output, and everything else to the errors.
 pub(crate) fn report_parser_error<O: Write, E: Write>(
-    alloc: Global,
-    arguments: &[String],
     error: &Error,
     output: &mut O,
     errors: &mut E,
@@ -109,7 +74,6 @@ pub(crate) fn report_parser_error<O: Write, E: Write>(
         ErrorKind::DisplayVersion => report_version(output, errors),
         _ if error.use_stderr() => {
             let _ = write!(errors, "{error}");
-            write_tip(alloc, error.kind(), arguments, errors);
             MISUSED
         }
         _ => report_shown(error, output, errors),

@@ -192,7 +192,7 @@ fn run_arguments<Y: System, I: ByteSource + Drop, O: Write, E: Write>(
         }
         Ok(Request::Serve(service)) => { run_service(world, &service, output, errors) }
         Ok(Request::Explore(exploration)) => { run_explore(world, &exploration, output, errors) }
-        Err(error) => report_parser_error(world.alloc, arguments, &error, output, errors),
+        Err(error) => report_parser_error(&error, output, errors),
     }
 }
 

@@ -17,9 +17,11 @@ const CHECK_HELP: &str =
 Usage: monitor check [OPTIONS] <SPEC> <REPORT> <STREAM>...\n\n\
 Arguments:\n  <SPEC>       The session document\n  <REPORT>     The report\n  \
 <STREAM>...  The streams of events, one file for each\n\n\
-Options:\n      --width <WIDTH>  \
+Options:\n      --explain        Explain the answers, a refusal or what fails, on the standard error\n      \
+--width <WIDTH>  \
 How many cuts a level may have, at most 65536, in place of the document's width\n      \
---ask <TEXT>     A predicate in place of the document's, named ask1; given again, one more, named ask2, and so on\n  \
+--ask <TEXT>     A predicate in place of the document's, as TEXT or as NAME=TEXT; given again, one more. \
+Without a name the first is ask1, the second ask2\n  \
 -h, --help           Print help\n\n\
 What is found is written to the standard output. The status is 0 if nothing in it is bad, 1 if something is, \
 2 if the arguments are refused, 3 if a file can't be opened or read or the output can't be written, \

@@ -16,8 +16,10 @@ returns c =
     ∙ (ap (λ (fields : Command-F Command). fields.has_globals) c.about.ensures ∙ c.new.ensures.local) in
     let document = with_argument _ _ _ _ _ (app_is, no_globals)
     (c.file_argument.ensures.rule, c.file_argument.ensures.local) c.in_ok-arg.ensures in
-    let width = with_argument _ _ _ _ _ document (c.width_option.ensures.rule, c.width_option.ensures.local)
+    let explain = with_argument _ _ _ _ _ document (c.explain_option.ensures.rule, c.explain_option.ensures.local)
     c.in_ok-arg-2.ensures in
-    let both = with_last_argument _ _ c.arg-3.result _ _ width
-    (c.ask_option.ensures.rule, c.ask_option.ensures.local) c.arg-3.ensures in
+    let width = with_argument _ _ _ _ _ explain (c.width_option.ensures.rule, c.width_option.ensures.local)
+    c.in_ok-arg-3.ensures in
+    let both = with_last_argument _ _ c.arg-4.result _ _ width
+    (c.ask_option.ensures.rule, c.ask_option.ensures.local) c.arg-4.ensures in
     record { app = both.0; local = both.1 }
