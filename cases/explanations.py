@@ -177,6 +177,9 @@ def predicates():
 def asked():
     yield session("a predicate that is asked for names no variable", words=("--ask", "a.x == 1", "--ask", "b.z == 1"))
     yield session("a sign is missing in a predicate that is asked for", words=("--ask", "a.x = 1"))
+    yield session("a sign is missing in a predicate that is asked for by a name", words=("--ask", "busy=a.x = 1"))
+    yield session("two predicates that are asked for have one name",
+                  words=("--ask", "busy=a.x == 1", "--ask", "busy=b.y == 1"))
 
 
 def checks():
@@ -332,6 +335,8 @@ def bundles():
 def faults():
     yield session("a file isn't there")._replace(words=("judge", "session.json", "a.stream", "c.stream"))
     yield session("several files aren't there")._replace(words=("judge", "doc.json", "c.stream", "a.stream", "d.stream"))
+    yield session("a predicate stands in no quotes")._replace(
+        words=("judge", "session.json", "a.stream", "b.stream", "--ask", "a.x", "==", "1"))
     yield session("the document is a folder")._replace(words=("judge", ".", "a.stream", "b.stream"))
     good = session("the report isn't there")
     yield good._replace(words=("check", "session.json", "report", "a.stream", "b.stream"))

@@ -1,7 +1,8 @@
 //! Explains why there is no report.
+use super::near_names::say_near;
 use app_text::{say, say_name, say_number, say_shown};
 use pd_spec::NamedPred;
-use std::alloc::AllocError;
+use std::alloc::{AllocError, Global};
 
 /// Explains that a file can't be opened or read, in the words of the system.
 ///
@@ -106,15 +107,43 @@ stream, as in `monitor < FILE`.\n",
     )
 }
 
-/// Explains that the document has no predicate of the name that is asked for, and says which it has.
+/// The names of the predicates.
+fn predicate_texts(alloc: Global, predicates: &[NamedPred]) -> Result<Vec<&str>, AllocError> {
+    let mut texts = Vec::new(alloc);
+    for predicate in predicates {
+        texts.push(predicate.name.as_str())?;
+    }
+    Ok(texts)
+}
+
+/// Says which predicates the document has.
+fn say_predicates(out: &mut Vec<u8>, names: &[&str]) -> Result<(), AllocError> {
+    say(out, "The predicates of the document are ")?;
+    for (index, name) in names.iter().enumerate() {
+        say(out, if index == 0 { "" } else { ", " })?;
+        say_name(out, name)?;
+    }
+    say(out, ".\n")
+}
+
+/// Explains that the document has no predicate of the name that this option names, whether one has nearly this name,
+/// and which there are.
 ///
 /// # Errors
 /// Out of memory; what was put until then stays.
-pub fn explain_no_predicate(out: &mut Vec<u8>, predicates: &[NamedPred]) -> Result<(), AllocError> {
-    say(out, "The predicates of the document are ")?;
-    for (index, predicate) in predicates.iter().enumerate() {
-        say(out, if index == 0 { "" } else { ", " })?;
-        say_name(out, &predicate.name)?;
-    }
-    say(out, ".\n")
+pub fn explain_no_predicate(
+    out: &mut Vec<u8>,
+    alloc: Global,
+    predicates: &[NamedPred],
+    option: &str,
+    name: &str,
+) -> Result<(), AllocError> {
+    say(out, "The document has no predicate ")?;
+    say_name(out, name)?;
+    say(out, ", which ")?;
+    say(out, option)?;
+    say(out, " names.\n")?;
+    let names = predicate_texts(alloc, predicates)?;
+    say_near(out, alloc, name, &names, "")?;
+    say_predicates(out, &names)
 }

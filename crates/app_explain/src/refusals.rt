@@ -27,26 +27,20 @@ fn may_be_asked(options: Option<&Options<'_>>, word: DocumentWord) -> bool {
     }
 }
 
-/// Explains a document that is refused by this word.
-fn put_document(
-    out: &mut Vec<u8>,
-    alloc: Global,
-    seen: Seen<'_>,
-    word: DocumentWord,
-) -> Result<(), AllocError> {
-    match seen.document {
-        Some(source) if !may_be_asked(seen.options, word) => {
-            explain_document(out, alloc, &source, word)
-        }
-        _ => explain_document_word(out, word),
+/// Whether predicates are asked in place of the document's.
+fn asks_predicates(options: Option<&Options<'_>>) -> bool {
+    match options {
+        Some(options) => !options.predicates.is_empty(),
+        None => false,
     }
 }
 
 /// Where the texts of the predicates come from.
 fn predicates_of<'a>(document: &'a str, options: Option<&Options<'_>>) -> &'a str {
-    match options {
-        Some(options) if !options.predicates.is_empty() => "--ask",
-        _ => document,
+    if asks_predicates(options) {
+        "--ask"
+    } else {
+        document
     }
 }
 
@@ -55,6 +49,44 @@ fn asked_text(alloc: Global, bytes: &[u8], options: Option<&Options<'_>>) -> Opt
     match options {
         Some(options) => document_text(alloc, bytes, options).ok(),
         None => Vec::from_slice(alloc, bytes).ok(),
+    }
+}
+
+/// Explains a document in which two names are the same, as it is with the predicates that are asked.
+fn put_twice(
+    out: &mut Vec<u8>,
+    alloc: Global,
+    seen: Seen<'_>,
+    document: &Source<'_>,
+) -> Result<(), AllocError> {
+    match asked_text(alloc, document.bytes, seen.options) {
+        Some(bytes) => {
+            let source = Source {
+                name: "the document with what --ask asks",
+                bytes: &bytes,
+                before: 0,
+            };
+            explain_document(out, alloc, &source, DocumentWord::NameTwice)
+        }
+        None => explain_document_word(out, DocumentWord::NameTwice),
+    }
+}
+
+/// Explains a document that is refused by this word.
+fn put_document(
+    out: &mut Vec<u8>,
+    alloc: Global,
+    seen: Seen<'_>,
+    word: DocumentWord,
+) -> Result<(), AllocError> {
+    match seen.document {
+        Some(source) if word == DocumentWord::NameTwice && asks_predicates(seen.options) => {
+            put_twice(out, alloc, seen, &source)
+        }
+        Some(source) if !may_be_asked(seen.options, word) => {
+            explain_document(out, alloc, &source, word)
+        }
+        _ => explain_document_word(out, word),
     }
 }
 
