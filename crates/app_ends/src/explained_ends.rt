@@ -1,17 +1,19 @@
 //! Explains how a run ended, by what it has read.
+ghost use Rattle.app_ends.specs.Shown.{AreRowsOrText};
+
 use super::explained_answers::put_answers;
 use super::reasons::put_reasons;
 use super::seen_files::{seen_document, seen_file, seen_streams};
 use super::seen_parts::{document_of, parts_of, streams_of};
-use super::unknown_names::{put_unknown, put_unknown_condition};
+use super::unknown_names::put_unknown_condition;
 use app_arguments::{Exploration, FailOn, Judgement, SessionNames};
 use app_explain::{
     Judged, Seen, SeenStream, Widest, explain_bundle_fault, explain_file, explain_finding,
-    explain_long_report, explain_memory, explain_no_file, explain_no_picture, explain_output,
-    explain_refusal, explain_unread_finding,
+    explain_long_report, explain_memory, explain_no_file, explain_no_picture, explain_no_predicate,
+    explain_output, explain_refusal, explain_unread_finding,
 };
 use app_host::{FileSource, Note, System, World, check_seen};
-use app_text::{Source, in_rows};
+use app_text::{Source, in_rows, say};
 use judge_draw::DrawOutcome;
 use judge_session::EngineFault;
 use out_picture::DrawOptions;
@@ -56,6 +58,28 @@ fn put_unread(out: &mut Vec<u8>, note: Option<&Note>, name: &str) -> Result<bool
     }
 }
 
+/// Whether a file of this name is more likely a sign or a word of a predicate that stands in no quotes.
+fn is_of_predicate(name: &str) -> bool {
+    matches!(
+        name,
+        "==" | "!=" | "<=" | ">=" | "+" | "*" | "and" | "or" | "not"
+    )
+}
+
+/// Says that a predicate stands in quotes, if one of these files is likely a part of one.
+fn put_quotes(out: &mut Vec<u8>, names: &[&str]) -> Result<(), AllocError> {
+    for name in names {
+        if is_of_predicate(name) {
+            return say(
+                out,
+                "What to do: put the predicate after --ask in quotes, as --ask 'a.x == 1'; without quotes each of its \
+words is a file's name.\n",
+            );
+        }
+    }
+    Ok(())
+}
+
 /// The same of the streams in the files of these names.
 fn put_unread_streams<Y: System>(
     out: &mut Vec<u8>,
@@ -66,6 +90,9 @@ fn put_unread_streams<Y: System>(
     for (place, name) in names.iter().enumerate() {
         let said = put_unread(out, world.notes.stream(place), name)?;
         is_found = is_found || said;
+    }
+    if is_found {
+        put_quotes(out, names)?;
     }
     Ok(is_found)
 }
@@ -79,7 +106,9 @@ fn put_output<Y: System>(out: &mut Vec<u8>, world: &World<'_, Y>) -> Result<(), 
 }
 
 /// The lines of an explanation in rows, or as they are if memory is refused.
-pub fn rows_of(alloc: Global, text: Vec<u8>) -> Vec<u8> {
+pub fn rows_of(alloc: Global, text: Vec<u8>) -> Vec<u8>
+    ensures { AreRowsOrText text.items result.items }
+{
     match in_rows(alloc, &text) {
         Ok(rows) => rows,
         Err(_) => text,
@@ -171,7 +200,7 @@ fn put_undrawn<Y: System>(
 ) -> Result<(), AllocError> {
     match (seen_alone(world, names).spec(world.alloc), scope.predicate) {
         (Some(spec), Some(name)) => {
-            put_unknown(out, world.alloc, spec.predicates(), "--predicate", name)
+            explain_no_predicate(out, world.alloc, spec.predicates(), "--predicate", name)
         }
         _ => Ok(()),
     }

@@ -1,6 +1,8 @@
 //! Explains how a run ended, by what it has read: no file is opened again.
 //!
-//! Explanations are for a person, and no clause speaks of them. What they say stands in `app_explain`.
+//! Explanations are for a person. Stated is what they are made of: the parts of a bundle with the lines before them,
+//! what files and parts are called, and that a text is shown in rows. Which sentence is chosen at which end is not; the
+//! sentences stand in `app_explain` and `app_answers`.
 //!
 //! - `seen_files`: what a run has read of files
 //! - `seen_parts`: what a run has read of a bundle

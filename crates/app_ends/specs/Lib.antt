@@ -1,0 +1,3 @@
+-- What the clauses cite.
+pub mod Parts
+pub mod Shown
