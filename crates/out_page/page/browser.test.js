@@ -322,10 +322,14 @@ test("all is done by keys", needed, async () => {
 test("predicates, values and evidence are said in words", needed, async () => {
   const page = await Page.open(example("failover"));
   const badges = () => page.js("[...document.querySelectorAll('.badge')].map((each) => each.textContent)");
-  assert.deepEqual(await badges(), ["✓ true", "✗ false", "✗ false"]);
+  assert.deepEqual(await badges(), ["true", "false", "false"]);
+  assert.equal(await page.text("verdict"), "3 of 3 predicates can happen: two_leaders, two_writers, no_leader");
+  assert.deepEqual(await page.js("[...document.querySelectorAll('.verdict')].map((each) => each.textContent)"),
+    ["can happen", "can happen", "can happen"]);
+  assert.match(await page.js("document.title"), /^3 of 3 predicates can happen/);
   await page.button("Show the cut", 2);
   assert.deepEqual(await page.cut(), [1, 4, 0]);
-  assert.deepEqual(await badges(), ["✗ false", "✗ false", "✓ true"]);
+  assert.deepEqual(await badges(), ["false", "false", "true"]);
   assert.match(await page.text("predicates"), /0 \+ 0 = 0 equals 0/);
   assert.match(await page.text("predicates"), /0 isn't 1/);
   const changed = "[...document.querySelectorAll('#values .changed th')].map((each) => each.textContent)";
@@ -333,12 +337,77 @@ test("predicates, values and evidence are said in words", needed, async () => {
   await page.close();
   const unknown = await Page.open(example("unknown"));
   assert.match(await unknown.text("predicates"), /more cuts than the width/);
+  assert.match(await unknown.text("verdict"), /unknown/);
   await unknown.close();
+});
+
+test("what is shown is saved as a picture, and copied as text", needed, async () => {
+  const page = await Page.open(example("failover"));
+  const text = await page.js("asText(run, state.cut)");
+  assert.match(text, /^3 of 3 predicates can happen/);
+  assert.match(text, /two_leaders can happen, and is true at this cut: /);
+  assert.match(text, /The cut 2,0,2:\nmanager after 2 of 4 events/);
+  await page.js(`globalThis.saved = []; HTMLAnchorElement.prototype.click = function () {
+    saved.push([this.download, this.href.slice(0, 5)]); }; byId("save-picture").click(); 0`);
+  await page.until("saved.length === 1");
+  assert.deepEqual(await page.js("saved"), [["run.png", "blob:"]]);
+  await page.close();
+});
+
+test("a predicate is typed, and judged at the cut shown", needed, async () => {
+  const page = await Page.open(example("failover"));
+  const type = (text) => page.js(`byId("typed").value = ${JSON.stringify(text)};
+    byId("typed").dispatchEvent(new Event("input")); 0`);
+  const said = () => page.js("byId('typed-at').hidden ? null : byId('typed-at').textContent");
+  assert.equal(await said(), null);
+  await type("east.leader + west.leader == 2");
+  assert.equal(await said(), "At the cut shown: true");
+  await page.js("setCut([0, 0, 0])");
+  assert.equal(await said(), "At the cut shown: false");
+  assert.match(await page.text("typed-why"), /1 \+ 0 = 1 isn't 2/);
+  await type("<img src=x onerror=alert(1)>");
+  assert.equal(await said(), "“=x onerr” begins no word, number or sign.");
+  assert.equal(await page.js("document.querySelectorAll('img').length"), 0);
+  await type("");
+  assert.equal(await said(), null);
+  await page.close();
+});
+
+test("what the shown predicate names comes first among the values", needed, async () => {
+  const page = await Page.open(example("failover"));
+  const order = () => page.js(
+    "[...document.querySelectorAll('#values .process th')].map((each) => each.firstChild.data)");
+  const named = () => page.js("[...document.querySelectorAll('#values .named th')].map((each) => each.textContent)");
+  assert.deepEqual(await order(), ["east", "west", "manager"]);
+  assert.deepEqual(await named(), ["leader", "leader"]);
+  await page.js("show(1)");
+  assert.deepEqual(await named(), ["leader", "written"]);
+  await page.js("show(1)");
+  assert.deepEqual(await order(), ["manager", "east", "west"], "none is shown");
+  assert.deepEqual(await named(), []);
+  await page.close();
+});
+
+test("of many lanes the messages that matter stand out", needed, async () => {
+  const page = await Page.open(ring(16, 20));
+  assert.deepEqual(await page.js(`(() => {
+    state.shown = -1;
+    const matters = mattering(run, state);
+    const all = [...run.messages.ids.keys()];
+    const touched = all.filter((m) => [[run.messages.from[m], run.messages.fromEvent[m]],
+      [run.messages.to[m], run.messages.toEvent[m]]].some(([p, i]) => i === state.cut[p] || i === state.cut[p] + 1));
+    return [all.filter(matters).length === touched.length, touched.length < all.length];
+  })()`), [true, true]);
+  await page.close();
 });
 
 test("an observation is a film", needed, async () => {
   const page = await Page.open(example("failover"));
-  await page.button("Show the film", 0);
+  await page.click(1, 3);
+  await page.button("Play the counterexample", 0);
+  assert.equal(await page.js("state.selected"), null, "nothing is shaded");
+  await page.until("state.film.step > 0");
+  await page.js("pause(); toStep(0)");
   assert.deepEqual(await page.cut(), [0, 0, 0]);
   await page.js("byId('film-on').click(); byId('film-on').click()");
   assert.deepEqual(await page.cut(), [2, 0, 0]);
@@ -429,7 +498,7 @@ test("a refused cycle is marked, and has no cut", needed, async () => {
 test("a page without events, narrow and dark", needed, async () => {
   const page = await Page.open(made("empty", { predicates: [{ name: "q", text: "a.x > 5" }],
     processes: [{ name: "a", vars: { x: 0 } }] }, [[{ process: "a" }]]), "", { width: 400, dark: true });
-  await page.button("Show the film", 0);
+  await page.button("Play the counterexample", 0);
   await page.press(" ", "Escape", "0", "c", ",", ".", "u");
   await page.js("lanes[0].lane.focus()");
   await page.press("ArrowRight", "End");

@@ -7,6 +7,9 @@ const UNDO_LIMIT = 200;
 // at least some, and how high at most; from how many pixels of a column on it is shown whole, how many a column has if
 // not, and how fine a pixel is.
 const PAPER = { width: 958, names: 138, height: 400, whole: 9, scale: 26, ratio: 3 };
+// Below the last one of narrow lanes its numbers have some pixels more.
+const ROOMY_LANE = 48;
+const UNDER_LAST = 10;
 const HOW_TO_MOVE = "Move it: click an event, drag a grip, or use the arrow keys on a lane.";
 
 window.addEventListener("error", (event) => { byId("status").textContent = "The page failed: " + event.message; });
@@ -16,10 +19,10 @@ byId("data").remove();
 
 const state = {
   cut: run.counts.map(() => 0), before: run.counts.map(() => 0), forced: [], undo: [],
-  lane: 0, focused: false, selected: null, cone: null, shown: -1, film: null, query: "", hits: [], hit: -1,
+  lane: 0, focused: false, selected: null, cone: null, shown: -1, typed: null, film: null, query: "", hits: [], hit: -1,
   view: { left: 0, scale: 1 }, listing: { p: 0, first: 1 },
 };
-const actions = { show, showCut, openFilm, select, cutTo, unselect: () => select(null) };
+const actions = { show, showCut, playFilm, select, cutTo, unselect: () => select(null) };
 const canvas = byId("diagram");
 const overview = byId("overview");
 const size = { width: 0, height: 0, top: 0, lane: 0, ratio: 1 };
@@ -43,7 +46,7 @@ function measure() {
   size.lane = Math.round(Math.max(34, Math.min(96, sought)));
   size.width = printing ? PAPER.width - Math.max(PAPER.names, byId("lanes").offsetWidth)
     : Math.max(120, Math.floor(shell.clientWidth));
-  size.height = size.top * 2 + size.lane * run.size;
+  size.height = size.top * 2 + size.lane * run.size + (size.lane < ROOMY_LANE ? UNDER_LAST : 0);
   document.documentElement.style.setProperty("--lane-height", size.lane + "px");
   fitCanvas(canvas, size.width, size.height);
   strip.width = Math.max(120, Math.floor(byId("stage").clientWidth));
@@ -206,6 +209,7 @@ function showCut(k) {
 
 function update() {
   updatePredicates(run, state, cards);
+  updateTyped(run, state);
   updateValues(run, state, rows);
   updateEvent(run, state, actions);
   updateListing(run, state, actions);
@@ -277,6 +281,12 @@ function laneKey(event, p) {
 }
 
 // ---- the film ---------------------------------------------------------------------------------------------------
+
+function playFilm(k) {
+  select(null);   // what lies before and after an event isn't shaded while the film runs
+  openFilm(k);
+  if (run.eventCount > 0) play();
+}
 
 function openFilm(k, step = 0) {
   pause();
@@ -557,6 +567,27 @@ function hideTip() {
   byId("tip").hidden = true;
 }
 
+// ---- what is taken along ----------------------------------------------------------------------------------------
+
+// What is shown of the run, as a file. The address of the file is given back once it is saved.
+function savePicture() {
+  canvas.toBlob((blob) => {
+    const link = element("a", { href: URL.createObjectURL(blob), download: "run.png" });
+    link.click();
+    setTimeout(() => URL.revokeObjectURL(link.href), 1000);
+    say("The picture is saved as run.png.");
+  });
+}
+
+async function copyText() {
+  try {
+    await navigator.clipboard.writeText(asText(run, state.cut));
+    say("The verdict, the cut and its values are copied.");
+  } catch {
+    say("The browser lets this page copy nothing.");
+  }
+}
+
 // ---- the address ------------------------------------------------------------------------------------------------
 
 let written = "";
@@ -591,14 +622,15 @@ function readAddress() {
 // ---- the start --------------------------------------------------------------------------------------------------
 
 function start() {
-  document.title = "monitor: " + (run.cycle !== null ? "a causal cycle"
-    : run.predicates.map((each) => each.name).join(", "));
+  byId("verdict").textContent = verdictText(run);
+  document.title = verdictText(run) + " – monitor explore";
   byId("counts").textContent = counted(run.size, "process", "processes") + ", " + counted(run.eventCount, "event") +
     ", " + counted(run.received, "message") +
     (run.inFlight > 0 ? " and " + run.inFlight.toLocaleString("en") + " in flight" : "");
   makeLanes();
   cards = makePredicates(run, actions);
   rows = makeValues(run, actions);
+  byId("typed").placeholder = "as " + (run.predicates[0]?.text ?? "true");
   run.names.forEach((name, p) => byId("listing-process").append(element("option", { value: String(p) }, name)));
   FILM_SPEEDS.forEach((speed) => byId("film-speed").append(element("option", { value: String(speed) }, String(speed))));
   canvas.setAttribute("aria-label", "The run: " + byId("counts").textContent + ". " + (run.cycle !== null
@@ -639,6 +671,8 @@ function start() {
   onClick("zoom-out", () => zoom(1 / 1.5));
   onClick("fit", () => setView(0, 0));
   onClick("to-cut", revealCut);
+  onClick("save-picture", savePicture);
+  onClick("copy-text", copyText);
   onClick("film-play", play);
   onClick("film-back", () => { pause(); toStep(state.film.step - 1); });
   onClick("film-on", () => { pause(); toStep(state.film.step + 1); });
@@ -665,6 +699,11 @@ function start() {
     clearTimeout(searching);
     searching = setTimeout(search, 120);
   });
+  byId("typed").addEventListener("input", () => {
+    state.typed = typedPredicate(run, byId("typed").value);
+    updateTyped(run, state);
+  });
+  byId("type").addEventListener("submit", (event) => event.preventDefault());
   document.addEventListener("keydown", pageKey);
   window.addEventListener("hashchange", () => { if (location.hash !== written) readAddress(); });
   new ResizeObserver(() => {

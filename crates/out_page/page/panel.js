@@ -42,19 +42,23 @@ function cutNodes(cut) {
 
 // ---- predicates -------------------------------------------------------------------------------------------------
 
+// A card leads with what is so of the whole run, and says after its evidence what is so at the cut shown.
 function makePredicates(run, actions) {
   return run.predicates.map((predicate, k) => {
     const badge = element("span", { class: "badge" });
     const why = element("ul", { class: "why" });
+    const verdict = verdictOf(predicate);
     const answers = element("dl", { class: "answers" },
       element("dt", {}, "Possibly"), possiblyOf(run, predicate, k, actions),
       element("dt", {}, "Definitely"), definitelyOf(run, predicate, k, actions));
     const name = element("button", { type: "button", class: "plain", title: "write its variables beside the cut",
                                      click: () => actions.show(k) }, predicate.name);
     const open = predicate.possibly[0] === "unknown" || predicate.definitely[0] === "unknown";
-    const card = element("article", { class: "predicate" }, element("h3", {}, name, badge),
-      element("code", {}, predicate.text), why, answers,
-      open ? element("p", { class: "hint" }, whatToDo(run, predicate.node)) : null);
+    const card = element("article", { class: "predicate" },
+      element("h3", {}, name, element("span", { class: "verdict " + verdict.split(" ")[0] }, verdict)),
+      element("code", {}, predicate.text), answers,
+      open ? element("p", { class: "hint" }, whatToDo(run)) : null,
+      element("p", { class: "at" }, "At the cut shown: ", badge), why);
     byId("predicates").append(card);
     return { card, badge, why, name };
   });
@@ -76,9 +80,11 @@ function possiblyOf(run, { possibly: [word, evidence] }, k, actions) {
 
 function definitelyOf(run, { definitely: [word, evidence] }, k, actions) {
   if (word === "no") {
-    return given(word, ", an observation avoids it",
-      element("button", { type: "button", click: () => actions.openFilm(k) }, "Show the film"));
+    return given(word, [],
+      element("button", { type: "button", title: "play an observation that avoids it",
+                          click: () => actions.playFilm(k) }, "Play the counterexample"));
   }
+  if (word === "yes" && Number(evidence) === 0) return given(word, ", before the first event of every observation");
   if (word === "yes") {
     return given(word, ", by level " + evidence + ": in whichever order the events were observed, it was true at " +
       "some cut of at most " + evidence + (evidence === 1 ? " event" : " events"));
@@ -86,9 +92,9 @@ function definitelyOf(run, { definitely: [word, evidence] }, k, actions) {
   return given(word, ": level " + evidence + " has more cuts that avoid it than the width, " + run.width);
 }
 
-function whatToDo(run, node) {
-  return "Unknown isn't no. To decide it: " + (run.beyondWidth || !isForAnyWidth(node) ? ""
-    : "the option --beyond-width, which can answer such a predicate whatever the width; ") +
+function whatToDo(run) {
+  return "Unknown isn't no. To decide it: " + (run.beyondWidth ? ""
+    : "the option --beyond-width, which decides most predicates whatever the width; ") +
     (run.width < 65536 ? "the option --width with a greater width, up to 65536; " : "") +
     "a recording with fewer events between the messages.";
 }
@@ -98,19 +104,42 @@ function updatePredicates(run, state, cards) {
   cards.forEach(({ card, badge, why, name }, k) => {
     const { node } = run.predicates[k];
     const truth = isTrue(node, read);
-    badge.textContent = truth ? "✓ true" : "✗ false";
+    badge.textContent = String(truth);
     badge.className = "badge " + truth;
     card.classList.toggle("shown", k === state.shown);
     name.setAttribute("aria-pressed", String(k === state.shown));
-    const reasons = deciding(node, read).filter((reason) => reason.why !== "");
-    renew(why, reasons.map((reason) => reason.text + reason.why).join(), () => [
-      ...reasons.slice(0, REASONS_SHOWN).map(({ text, holds, negated, why: words }) =>
-        element("li", { class: holds ? "holds" : "fails" }, element("code", {}, text), (holds ? " holds" : " fails") +
-          (negated ? ", under not: " : ": ") + words)),
-      ...(reasons.length <= REASONS_SHOWN ? []
-        : [element("li", {}, "and " + counted(reasons.length - REASONS_SHOWN, "comparison") + " more")]),
-    ]);
+    updateReasons(why, node, read);
   });
+}
+
+// Which comparisons decide a predicate.
+function updateReasons(why, node, read) {
+  const reasons = deciding(node, read).filter((reason) => reason.why !== "");
+  renew(why, reasons.map((reason) => reason.text + reason.why).join(), () => [
+    ...reasons.slice(0, REASONS_SHOWN).map(({ text, holds, negated, why: words }) =>
+      element("li", { class: holds ? "holds" : "fails" }, element("code", {}, text), (holds ? " holds" : " fails") +
+        (negated ? ", under not: " : ": ") + words)),
+    ...(reasons.length <= REASONS_SHOWN ? []
+      : [element("li", {}, "and " + counted(reasons.length - REASONS_SHOWN, "comparison") + " more")]),
+  ]);
+}
+
+// The predicate that was typed, at the cut shown: nothing is said of the whole run.
+function updateTyped(run, state) {
+  const { typed } = state;
+  byId("typed-at").hidden = typed === null;
+  byId("typed-why").hidden = typed === null || typed.node === null;
+  if (typed === null) return;
+  const badge = byId("typed-badge");
+  badge.hidden = typed.node === null;
+  badge.textContent = "";
+  byId("typed-words").textContent = typed.node === null ? typed.wrong : "At the cut shown: ";
+  if (typed.node === null) return;
+  const read = reader(run, state.cut);
+  const truth = isTrue(typed.node, read);
+  badge.textContent = String(truth);
+  badge.className = "badge " + truth;
+  updateReasons(byId("typed-why"), typed.node, read);
 }
 
 // The predicates whose truth differs between two cuts, in words.
@@ -120,6 +149,15 @@ function turned(run, before, after) {
     const truth = isTrue(node, reader(run, after));
     return truth === isTrue(node, reader(run, before)) ? [] : [name + " is " + truth + " now."];
   });
+}
+
+// The run, the cut and the values at it as lines of text, to be pasted into a report of a bug.
+function asText(run, cut) {
+  const values = run.names.map((name, p) => name + " after " + cut[p] + " of " + counted(run.counts[p], "event") +
+    run.vars[p].map(({ name: variable }, v) => ", " + variable + " = " + valueAt(run, p, v, cut[p])).join(""));
+  const answers = run.predicates.map((each) => each.name + " " + verdictOf(each) + ", and is " +
+    isTrue(each.node, reader(run, cut)) + " at this cut: " + each.text);
+  return [verdictText(run) + ".", ...answers, "The cut " + cut.join(",") + ":", ...values, ""].join("\n");
 }
 
 // Which predicates are true at a cut, in words.
@@ -160,13 +198,28 @@ function makeValues(run, actions) {
       rows.push({ p, v, row, value, by });
       body.append(row);
     });
-    rows.push({ p, v: -1, count });
+    rows.push({ p, v: -1, count, body });
     byId("values").append(body);
   });
   return rows.map((row) => ({ ...row, select: (i) => actions.select(row.p, i) }));
 }
 
+// The processes that the predicate shown names come first, with what it names of them marked.
+let orderedFor = null;
+function orderValues(run, state, rows) {
+  if (orderedFor === state.shown) return;
+  orderedFor = state.shown;
+  const refs = state.shown < 0 || run.cycle !== null ? [] : run.predicates[state.shown].refs;
+  const named = processesOf(refs);
+  const isNamed = (p, v) => refs.some((ref) => ref[0] === p && ref[1] === v);
+  const bodies = rows.filter(({ v }) => v < 0);
+  for (const { p, v, row } of rows) if (v >= 0) row.classList.toggle("named", isNamed(p, v));
+  byId("values").append(...[...bodies.filter(({ p }) => named.has(p)), ...bodies.filter(({ p }) => !named.has(p))]
+    .map(({ body }) => body));
+}
+
 function updateValues(run, state, rows) {
+  orderValues(run, state, rows);
   for (const { p, v, row, value, by, count, select } of rows) {
     const events = state.cut[p];
     if (v < 0) {
@@ -251,7 +304,7 @@ function updateEvent(run, state, actions) {
       ...message.ends.flatMap((end) => [" ", element("button",
         { type: "button", class: "plain", click: () => actions.select(end.p, end.i) }, placeText(run, end.p, end.i))]));
   }
-  const buttons = [["Let go", () => actions.unselect()]];
+  const buttons = [["Deselect", () => actions.unselect()]];
   if (state.cone !== null) {
     const { before, after, beside } = state.cone;
     add("Around it", counted(before, "event") + " before it, " + after.toLocaleString("en") + " after it, " +

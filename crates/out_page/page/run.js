@@ -391,12 +391,42 @@ function refsOf(node) {
   return [...refs.values()];
 }
 
-// Can a predicate be answered whatever the width? It names no more than two processes, or one in each comparison.
-function isForAnyWidth(node) {
-  const processes = (each) => new Set(refsOf(each).map(([p]) => p)).size;
-  const areAlone = (each) => (each.kind === "compare" ? processes(each) <= 1
-    : (each.parts ?? (each.part === undefined ? [] : [each.part])).every(areAlone));
-  return processes(node) <= 2 || areAlone(node);
+// What the answers say of the whole run, in two words: an answer that is yes counts before one that is unknown.
+function verdictOf({ possibly: [possibly], definitely: [definitely] }) {
+  if (definitely === "yes") return "always happens";
+  if (possibly === "yes") return "can happen";
+  return possibly === "no" ? "cannot happen" : "unknown";
+}
+
+// The verdict on the run: which predicates happen, and how many are unknown.
+const NAMES_SHOWN = 3;
+function verdictText(run) {
+  if (run.cycle !== null) return "Refused: a causal cycle";
+  const of = (...verdicts) =>
+    run.predicates.filter((each) => verdicts.includes(verdictOf(each))).map(({ name }) => name);
+  const [only] = run.predicates;
+  if (run.predicates.length === 1) {
+    return verdictOf(only) === "unknown" ? "It is unknown whether " + only.name + " can happen"
+      : only.name + " " + verdictOf(only);
+  }
+  const [happen, always, unknown] = [of("can happen", "always happens"), of("always happens"), of("unknown")];
+  const listed = (names) => names.slice(0, NAMES_SHOWN).join(", ") +
+    (names.length > NAMES_SHOWN ? " and " + (names.length - NAMES_SHOWN) + " more" : "");
+  const all = " of " + run.predicates.length + " predicates ";
+  if (happen.length === 0) {
+    return unknown.length === 0 ? "None" + all + "can happen" : unknown.length + all +
+      (unknown.length === 1 ? "is unknown" : "are unknown") +
+      (unknown.length < run.predicates.length ? "; no other can happen" : "");
+  }
+  const parts = [happen.length + all + "can happen: " + listed(happen)];
+  if (always.length > 0) parts.push(listed(always) + " always " + (always.length === 1 ? "happens" : "happen"));
+  if (unknown.length > 0) parts.push(unknown.length + (unknown.length === 1 ? " is" : " are") + " unknown");
+  return parts.join("; ");
+}
+
+// The processes that a predicate names.
+function processesOf(refs) {
+  return new Set(refs.map(([p]) => p));
 }
 
 function sumOf(terms, read) {
@@ -468,6 +498,147 @@ function sumText(terms, sum, read) {
   return text + " = " + sum;
 }
 
+// ---- a predicate that is typed ----------------------------------------------------------------------------------
+
+// Why a text is no predicate of this run.
+class Unread extends Error {}
+
+const TOKEN = /[ \t]*(?:([A-Za-z_]\w*|\d+|==|!=|<=|>=|[<>()+\-*.])|$)/y;
+const KEYWORDS = ["and", "or", "not", "true", "false"];
+const NESTED = 64;
+const NUMBER_LIMIT = 2n ** 63n - 1n;
+const FACTOR_LIMIT = 2n ** 31n - 1n;
+
+function tokensOf(text) {
+  const tokens = [];
+  TOKEN.lastIndex = 0;
+  while (TOKEN.lastIndex < text.length) {
+    const at = TOKEN.lastIndex;
+    const match = TOKEN.exec(text);
+    if (match === null) {
+      throw new Unread("“" + text.slice(at).trim().slice(0, 8) + "” begins no word, number or sign.");
+    }
+    if (match[1] === undefined) break;
+    tokens.push(match[1]);
+  }
+  return tokens;
+}
+
+// Reads the tree of a predicate's text, as the data has it. An `and` and an `or` group from the left.
+class PredicateText {
+  constructor(run, text) {
+    this.run = run;
+    this.tokens = tokensOf(text);
+    this.at = 0;
+    this.depth = 0;
+  }
+
+  take(...words) {
+    return words.includes(this.tokens[this.at]) ? this.tokens[this.at++] : null;
+  }
+
+  need(...words) {
+    const word = this.take(...words);
+    if (word === null) throw this.wrong(words.join(" "));
+    return word;
+  }
+
+  wrong(wanted) {
+    const found = this.tokens[this.at];
+    return new Unread("Expected " + wanted + (found === undefined ? " at the end." : ", not “" + found + "”."));
+  }
+
+  whole() {
+    const tree = this.disjunction();
+    if (this.at < this.tokens.length) throw this.wrong("and, or, or the end");
+    return tree;
+  }
+
+  joined(word, part) {
+    let tree = part();
+    while (this.take(word) !== null) tree = [word, tree, part()];
+    return tree;
+  }
+
+  inside(part) {
+    this.depth++;
+    if (this.depth > NESTED) throw new Unread("More than " + NESTED + " parentheses and nots stand inside each other.");
+    const tree = part();
+    this.depth--;
+    return tree;
+  }
+
+  disjunction() {
+    return this.joined("or", () => this.joined("and", () => this.operand()));
+  }
+
+  operand() {
+    if (this.take("not") !== null) return ["not", this.inside(() => this.operand())];
+    if (this.take("(") !== null) {
+      const tree = this.inside(() => this.disjunction());
+      this.need(")");
+      return tree;
+    }
+    const constant = this.take("true", "false");
+    return constant === null ? this.comparison() : [constant];
+  }
+
+  comparison() {
+    const left = this.sum();
+    const relation = this.need(...Object.values(RELATIONS));
+    return [Object.keys(RELATIONS).find((word) => RELATIONS[word] === relation), left, this.sum()];
+  }
+
+  sum() {
+    const terms = [[this.take("-") ?? "+", ...this.term()]];
+    for (let sign = this.take("+", "-"); sign !== null; sign = this.take("+", "-")) {
+      terms.push([sign, ...this.term()]);
+    }
+    return terms;
+  }
+
+  term() {
+    if (!/^\d/.test(this.tokens[this.at] ?? "")) return this.reference();
+    const number = BigInt(this.tokens[this.at++]);
+    const isFactor = this.take("*") !== null;
+    if (number > (isFactor ? FACTOR_LIMIT : NUMBER_LIMIT)) throw new Unread("The number " + number + " is too great.");
+    return isFactor ? [String(number), ...this.reference()] : [String(number)];
+  }
+
+  name(wanted) {
+    const word = this.tokens[this.at] ?? "";
+    if (!/^[A-Za-z_]/.test(word) || KEYWORDS.includes(word)) throw this.wrong(wanted);
+    this.at++;
+    return word;
+  }
+
+  reference() {
+    const process = this.name("a number or a variable, as " + this.run.names[0] + ".x");
+    const p = this.run.names.indexOf(process);
+    if (p < 0) throw new Unread("No process is called “" + process + "”.");
+    this.need(".");
+    const variable = this.name("a variable of " + process);
+    const v = this.run.vars[p].findIndex((each) => each.name === variable);
+    if (v < 0) throw new Unread("Process " + process + " has no variable “" + variable + "”.");
+    return [p, v];
+  }
+}
+
+function parsePredicate(run, text) {
+  return new PredicateText(run, text).whole();
+}
+
+// The predicate that a text is, or in words why it is none; nothing of an empty text.
+function typedPredicate(run, text) {
+  if (text.trim() === "") return null;
+  try {
+    return { node: readPredicate(parsePredicate(run, text), run.names, run.vars), wrong: "" };
+  } catch (error) {
+    if (!(error instanceof Unread)) throw error;
+    return { node: null, wrong: error.message };
+  }
+}
+
 // ---- observations -----------------------------------------------------------------------------------------------
 
 // An observation is a list of processes. Of each process the steps that add its events; its place 0 is no event's.
@@ -517,14 +688,27 @@ function find(run, query) {
   if (match !== null) {
     for (const p of asked(match[1])) add(p, Number(match[2]), "is event " + match[2]);
   }
+  const addEvents = (p) => {
+    for (let i = 1; i <= run.counts[p]; i++) add(p, i, "is an event of " + run.names[p]);
+  };
   const process = run.names.indexOf(text);
-  if (process >= 0) {
-    for (let i = 1; i <= run.counts[process]; i++) add(process, i, "is an event of " + text);
-  }
+  if (process >= 0) addEvents(process);
   const named = ids.includes(text);
-  if (named || (hits.size === 0 && text.length > 1)) {
-    ids.forEach((id, m) => { if (named ? id === text : id.includes(text)) addMessage(m); });
-  }
+  if (named) ids.forEach((id, m) => { if (id === text) addMessage(m); });
+  if (hits.size > 0 || text.length < 2) return inOrder(run, hits);
+  // Nothing is called so: what has it as a part of its name.
+  const part = text.toLowerCase();
+  const has = (name) => name.toLowerCase().includes(part);
+  run.names.forEach((name, p) => { if (has(name)) addEvents(p); });
+  run.vars.forEach((vars, p) => vars.filter(({ name }) => has(name)).forEach(({ name, at, values }) => {
+    at.forEach((i, k) => add(p, i, "sets " + name + " to " + values[k]));
+  }));
+  ids.forEach((id, m) => { if (has(id)) addMessage(m); });
+  return inOrder(run, hits);
+}
+
+// Hits by column and process.
+function inOrder(run, hits) {
   return [...hits.values()].sort((a, b) => run.columns[a.p][a.i] - run.columns[b.p][b.i] || a.p - b.p);
 }
 
@@ -563,5 +747,5 @@ if (typeof module === "object") {
   module.exports = { readRun, messagesBetween, countUpTo, clockAt, levelOf, isCut, isConsistent, including, excluding,
                      firstFrom, moveTo, forcing, isUpTo, coneOf, settingEvent, valueAt, reader, readPredicate, isTrue,
                      deciding, stepsOf, cutAtStep, find, fragmentOf, readFragment, sentBy, lineOf, sourceOf,
-                     isForAnyWidth };
+                     verdictOf, verdictText, parsePredicate, typedPredicate };
 }

@@ -10,7 +10,7 @@ const path = require("node:path");
 const script = require("./run.js");
 const { readRun, isConsistent, moveTo, valueAt, reader, readPredicate, isTrue, deciding, stepsOf, cutAtStep, find,
         fragmentOf, readFragment, coneOf, messagesBetween, sentBy, levelOf, lineOf, sourceOf,
-        isForAnyWidth } = script;
+        verdictOf, verdictText, parsePredicate, typedPredicate } = script;
 
 const MONITOR = process.env.MONITOR;
 const EXAMPLES = process.env.EXAMPLES;
@@ -296,12 +296,6 @@ test("sums are those of whole numbers, however large, and texts have the parenth
     "a.x + 2 * a.y < -1 and true and (true and false)");
   assert.equal(read(["not", ["not", ["and", less, less]]]).text,
     "not not (a.x + 2 * a.y < -1 and a.x + 2 * a.y < -1)");
-  const others = [["a", "b", "c"], ["a", "b", "c"].map(() => vars[0])];
-  const of = (p) => ["equals", [["+", p, 0]], [["+", "1"]]];
-  const both = (p, q) => ["less", [["+", p, 0]], [["+", q, 1]]];
-  const all = (...trees) => trees.reduce((left, right) => ["and", left, right]);
-  assert.deepEqual([both(0, 1), all(of(0), ["not", of(1)], of(2)), all(both(0, 1), of(2)), all(both(0, 1), of(1)),
-    ["true"]].map((tree) => isForAnyWidth(readPredicate(tree, ...others))), [true, true, false, true, true]);
   assert.deepEqual(deciding(read(["and", ["less", [x, y], [["+", "1"]]], ["less", [x], [["+", "0"]]]]),
     (p, v) => values[v]),
     [{ text: "a.x < 0", holds: false, negated: false, why: "9223372036854775807 isn't below 0" }]);
@@ -495,6 +489,66 @@ test("finding, and the address", () => {
                      "#view=0,-1", "#%%%"]) {
     assert.deepEqual(readFragment(run, bad), { cut: null, view: null, selected: null, film: null });
   }
+});
+
+test("a part of a name finds what has it, if nothing is called so", () => {
+  const made = { processes: [{ name: "leader", vars: { term: "0" } }, { name: "follower", vars: { Term2: "0" } }],
+    streams: [['{"process":"leader"}', '{"set":{"term":3}}', '{"send":"vote-1"}'],
+              ['{"process":"follower"}', '{"recv":"vote-1"}', '{"set":{"Term2":1}}']] };
+  const run = readRun(dataOf(made, [{ tree: ["true"] }]));
+  const places = (query) => find(run, query).map(({ p, i, why }) => run.names[p] + i + " " + why);
+  assert.deepEqual(places("LEAD"), ["leader1 is an event of leader", "leader2 is an event of leader"]);
+  assert.deepEqual(places("term"), ["leader1 sets term to 3", "follower2 sets Term2 to 1"]);
+  assert.deepEqual(places("vote"), ["leader2 sends vote-1", "follower1 receives vote-1"]);
+  assert.deepEqual(places("zz"), []);
+});
+
+test("a predicate that is typed is read as the program reads it, and what is none is refused in words", () => {
+  const made = { processes: [{ name: "a", vars: { x: "1", y: "2" } }, { name: "b", vars: { z: "3" } }],
+    streams: [['{"process":"a"}'], ['{"process":"b"}']] };
+  const run = readRun(dataOf(made, [{ tree: ["true"] }]));
+  for (let seed = 1; seed <= 3000; seed++) {
+    const { text, tree } = predicateOf(random(seed), made.processes);
+    assert.deepEqual(parsePredicate(run, text), tree, text);
+  }
+  const wrong = (text) => typedPredicate(run, text).wrong;
+  assert.equal(typedPredicate(run, "  "), null);
+  assert.equal(typedPredicate(run, " not a.x==1\tor  b.z>-2 ").node.text, "not a.x == 1 or b.z > -2");
+  assert.match(wrong("a.x = 1"), /begins no word, number or sign/);
+  assert.equal(wrong("a.x"), "Expected == != < <= > >= at the end.");
+  assert.equal(wrong("a.x == 1 b.z"), "Expected and, or, or the end, not “b”.");
+  assert.equal(wrong("(a.x == 1"), "Expected ) at the end.");
+  assert.equal(wrong("c.x == 1"), "No process is called “c”.");
+  assert.equal(wrong("a.z == 1"), "Process a has no variable “z”.");
+  assert.equal(wrong("a.x == or"), "Expected a number or a variable, as a.x, not “or”.");
+  assert.equal(wrong("a.x == 9223372036854775808"), "The number 9223372036854775808 is too great.");
+  assert.equal(wrong("2147483648 * a.x == 1"), "The number 2147483648 is too great.");
+  const nested = (depth) => "(".repeat(depth) + "true" + ")".repeat(depth);
+  assert.equal(wrong(nested(65)), "More than 64 parentheses and nots stand inside each other.");
+  assert.equal(wrong(nested(64)), "");
+});
+
+test("the verdict on the run", () => {
+  const answered = (name, possibly, definitely) => ({ name, possibly: [possibly], definitely: [definitely] });
+  const can = answered("p", "yes", "no");
+  const always = answered("q", "yes", "yes");
+  const cannot = answered("r", "no", "no");
+  const unknown = answered("s", "unknown", "unknown");
+  assert.deepEqual([can, always, cannot, unknown, answered("t", "unknown", "yes"), answered("u", "yes", "unknown"),
+    answered("v", "unknown", "no")].map(verdictOf), ["can happen", "always happens", "cannot happen", "unknown",
+    "always happens", "can happen", "unknown"]);
+  const said = (...predicates) => verdictText({ cycle: null, predicates });
+  assert.equal(said(can), "p can happen");
+  assert.equal(said(cannot), "r cannot happen");
+  assert.equal(said(unknown), "It is unknown whether s can happen");
+  assert.equal(said(cannot, cannot), "None of 2 predicates can happen");
+  assert.equal(said(unknown, unknown), "2 of 2 predicates are unknown");
+  assert.equal(said(unknown, cannot), "1 of 2 predicates is unknown; no other can happen");
+  assert.equal(said(can, cannot, cannot), "1 of 3 predicates can happen: p");
+  assert.equal(said(can, always, unknown), "2 of 3 predicates can happen: p, q; q always happens; 1 is unknown");
+  assert.equal(said(can, can, can, can, unknown, unknown),
+    "4 of 6 predicates can happen: p, p, p and 1 more; 2 are unknown");
+  assert.equal(verdictText({ cycle: [], predicates: [] }), "Refused: a causal cycle");
 });
 
 test("a refused cycle goes from each receipt to its send, and back along that process", needsProgram, () => {

@@ -6,10 +6,10 @@ pub(crate) const BEFORE: &[u8] = b"\
     <html lang=\"en\">\n\
     <head>\n\
     <meta charset=\"utf-8\">\n\
-    <meta http-equiv=\"Content-Security-Policy\" content=\"default-src 'none'; script-src 'sha256-SLEwAG8q1PoPmSI\
-    S75hFrd9XmKQx5DiJehIG37VLFrY=' 'sha256-lCf/O7uShxMCsyWw+AlaHu5AJVshmNsyNpBipo8b4+Q=' 'sha256-aK6nw9YOu6opxvvE\
-    0gC4WRzdvoea4Y4B1a92TzNfhGg=' 'sha256-nC/ATxHoKBeTCZ2/UuJI2FGKvyjcU5XA7BeLZ5ZXZU8='; style-src 'sha256-2wEAVB\
-    p7MiBHJq59HDaIVH7vo4e95Z5ou5rsgBrAbT4='; base-uri 'none'; form-action 'none'\">\n\
+    <meta http-equiv=\"Content-Security-Policy\" content=\"default-src 'none'; script-src 'sha256-II0HsJHCX3NqMi8\
+    rfKDSK2xuAGGBfGx7wMdd7ardFuk=' 'sha256-jFJT/wKmICUzerypbaDyJxlmOpy+zPesUZXWwCDwgdY=' 'sha256-Mq0MBf1W0m1Hqgq5\
+    COBxyrGDaxRBnZB5ciQpPwZfjXY=' 'sha256-MWQu57c/1kW3iJa57keaaqSAoH5cr0e5/LEu+lfX2KA='; style-src 'sha256-da167k\
+    3R0/IC0gSw5Lt2U7dWgKXjf7dybi4foOJhsPA='; base-uri 'none'; form-action 'none'\">\n\
     <meta name=\"viewport\" content=\"width=device-width, initial-scale=1\">\n\
     <meta name=\"referrer\" content=\"no-referrer\">\n\
     <meta name=\"color-scheme\" content=\"light dark\">\n\
@@ -39,10 +39,7 @@ pub(crate) const BEFORE: &[u8] = b"\
     \x20 --future: #e69f0012;\n\
     \x20 --future-line: #c2860055;\n\
     \x20 --band: #1c212708;\n\
-    \x20 --true: #00664a;\n\
-    \x20 --true-ground: #e3f3ec;\n\
-    \x20 --false: #6b4a1f;\n\
-    \x20 --false-ground: #f5eee2;\n\
+    \x20 --can-ground: #fbeee4;\n\
     }\n\
     @media (prefers-color-scheme: dark) {\n\
     \x20 :root:not(.printed) {\n\
@@ -65,10 +62,7 @@ pub(crate) const BEFORE: &[u8] = b"\
     \x20   --future: #e6b04014;\n\
     \x20   --future-line: #e6b0404d;\n\
     \x20   --band: #ffffff0a;\n\
-    \x20   --true: #7fdcb8;\n\
-    \x20   --true-ground: #17352b;\n\
-    \x20   --false: #e2bd85;\n\
-    \x20   --false-ground: #352a19;\n\
+    \x20   --can-ground: #3a2413;\n\
     \x20 }\n\
     }\n\
     @media (forced-colors: active) {\n\
@@ -110,7 +104,8 @@ pub(crate) const BEFORE: &[u8] = b"\
     :focus-visible { outline: 2px solid var(--message); outline-offset: 2px; }\n\
     \n\
     header { display: flex; align-items: center; gap: 8px 20px; padding: 12px 0; flex-wrap: wrap; }\n\
-    #counts { color: var(--muted); flex: 1; }\n\
+    #verdict { font-size: 16px; font-weight: 650; overflow-wrap: anywhere; }\n\
+    #counts { color: var(--muted); flex: 1 1 260px; }\n\
     #find { display: flex; align-items: center; gap: 4px; }\n\
     #query { width: min(340px, 60vw); }\n\
     #query::placeholder { color: var(--muted); opacity: 1; }\n\
@@ -183,20 +178,29 @@ pub(crate) const BEFORE: &[u8] = b"\
     .predicate { padding: 10px 0 10px 11px; border-top: 1px solid var(--line); border-left: 3px solid transparent\
     ;\n\
     \x20 margin-left: -14px; }\n\
+    #type label { color: var(--muted); }\n\
+    #typed { width: 100%; margin-top: 4px; font: 13px/1.5 var(--mono); }\n\
     .predicate:first-child { border-top: 0; padding-top: 2px; }\n\
     .predicate:last-child { padding-bottom: 0; }\n\
     .predicate.shown { border-left-color: var(--cut); }\n\
     .predicate h3 button.plain { color: var(--ink); font-weight: 600; overflow-wrap: anywhere; }\n\
-    .badge { font-size: 12.5px; font-weight: 600; border-radius: 999px; padding: 1px 10px; white-space: nowrap; }\
-    \n\
-    .badge.true { color: var(--true); background: var(--true-ground); }\n\
-    .badge.false { color: var(--false); background: var(--false-ground); }\n\
-    .predicate > code { color: var(--muted); }\n\
+    .verdict, .badge { font-size: 12.5px; font-weight: 600; border-radius: 999px; padding: 1px 10px; white-space:\
+    \x20nowrap;\n\
+    \x20 border: 1px solid transparent; }\n\
+    .verdict.can, .verdict.always { color: var(--cut-text); background: var(--can-ground); }\n\
+    .verdict.always { border-color: var(--cut-text); }\n\
+    .verdict.cannot { color: var(--muted); background: var(--band); }\n\
+    .verdict.unknown { color: var(--ink); border: 1px dashed var(--muted); }\n\
+    .at { margin-top: 6px; color: var(--muted); }\n\
+    .badge { padding: 0 8px; }\n\
+    .badge.true { color: var(--ink); border-color: var(--ink); }\n\
+    .badge.false { color: var(--muted); border-color: var(--line); }\n\
+    .predicate > code { color: var(--muted); display: block; margin: 2px 0 6px; max-height: 7.5em; overflow: auto\
+    ; }\n\
     .why { list-style: none; margin: 4px 0 8px; }\n\
     .why li { padding-left: 18px; position: relative; overflow-wrap: anywhere; }\n\
     .why li::before { position: absolute; left: 2px; color: var(--muted); }\n\
-    .why .holds::before { content: \"\xe2\x9c\x93\"; color: var(--true); }\n\
-    .why .fails::before { content: \"\xe2\x9c\x97\"; color: var(--false); }\n\
+    .why li::before { content: \"\xe2\x80\xa2\"; }\n\
     #cycle ol { margin: 8px 0; padding-left: 22px; }\n\
     .answers { align-items: start; }\n\
     .answers .given { display: flex; gap: 8px; justify-content: space-between; align-items: start; }\n\
@@ -206,6 +210,7 @@ pub(crate) const BEFORE: &[u8] = b"\
     #values .process .count { margin-left: 8px; font-weight: 400; }\n\
     #values tbody:first-of-type .process th { padding-top: 2px; }\n\
     #values tbody tr:not(.process) th { padding-left: 10px; font-weight: 400; overflow-wrap: anywhere; }\n\
+    #values tbody tr.named:not(.process) th { font-weight: 600; }\n\
     #values .value { font-weight: 600; }\n\
     #values .was, #values .last { font-weight: 400; color: var(--muted); font-size: 12.5px; }\n\
     #values .by { color: var(--muted); white-space: nowrap; }\n\
@@ -284,11 +289,12 @@ pub(crate) const BEFORE: &[u8] = b"\
     <body>\n\
     <header>\n\
     \x20 <h1>monitor <span>explore</span></h1>\n\
+    \x20 <p id=\"verdict\"></p>\n\
     \x20 <p id=\"counts\"></p>\n\
     \x20 <form id=\"find\" role=\"search\" autocomplete=\"off\">\n\
     \x20   <label for=\"query\" class=\"unseen\">Find an event</label>\n\
-    \x20   <input id=\"query\" type=\"search\" placeholder=\"Find: process, message, x = 3, number\" spellcheck=\"\
-    false\">\n\
+    \x20   <input id=\"query\" type=\"search\" placeholder=\"Find: process, variable, message, x = 3\" spellcheck\
+    =\"false\">\n\
     \x20   <button type=\"button\" id=\"previous\" title=\"previous (p)\" aria-label=\"Previous match\">\xe2\x80\xb9\
     </button>\n\
     \x20   <button type=\"submit\" id=\"next\" title=\"next (n)\" aria-label=\"Next match\">\xe2\x80\xba</button>\
@@ -302,8 +308,8 @@ pub(crate) const BEFORE: &[u8] = b"\
     \x20 <section id=\"run\" aria-label=\"The run\">\n\
     \x20   <div class=\"bar\" id=\"tools\">\n\
     \x20     <div class=\"group of-cuts\">\n\
-    \x20       <button type=\"button\" id=\"to-empty\" title=\"the cut before all events\">Nothing yet</button>\n\
-    \x20       <button type=\"button\" id=\"to-full\" title=\"the cut after all events\">All</button>\n\
+    \x20       <button type=\"button\" id=\"to-empty\" title=\"the cut before all events\">Start</button>\n\
+    \x20       <button type=\"button\" id=\"to-full\" title=\"the cut after all events\">End</button>\n\
     \x20       <button type=\"button\" id=\"undo\" title=\"the cut before this one (u)\">Undo</button>\n\
     \x20     </div>\n\
     \x20     <p id=\"level\"></p>\n\
@@ -314,6 +320,12 @@ pub(crate) const BEFORE: &[u8] = b"\
     \x20       <button type=\"button\" id=\"fit\" title=\"the whole run (0)\">Fit</button>\n\
     \x20       <button type=\"button\" id=\"to-cut\" title=\"bring the cut, or the cycle, into view (c)\">To the \
     cut</button>\n\
+    \x20     </div>\n\
+    \x20     <div class=\"group\">\n\
+    \x20       <button type=\"button\" id=\"save-picture\" title=\"save what is shown as a picture\">PNG</button>\
+    \n\
+    \x20       <button type=\"button\" id=\"copy-text\" class=\"of-cuts\" title=\"copy the verdict, the cut, its \
+    values\">Copy</button>\n\
     \x20     </div>\n\
     \x20   </div>\n\
     \x20   <div id=\"stage\">\n\
@@ -367,8 +379,15 @@ pub(crate) const BEFORE: &[u8] = b"\
     \x20     <div id=\"cycle\"></div>\n\
     \x20   </section>\n\
     \x20   <section aria-labelledby=\"predicates-title\" class=\"of-cuts\">\n\
-    \x20     <h2 id=\"predicates-title\">Predicates at the cut</h2>\n\
+    \x20     <h2 id=\"predicates-title\">Predicates</h2>\n\
     \x20     <div id=\"predicates\"></div>\n\
+    \x20     <form id=\"type\" class=\"predicate\" autocomplete=\"off\">\n\
+    \x20       <label for=\"typed\">Another predicate, at the cut shown alone</label>\n\
+    \x20       <input id=\"typed\" type=\"text\" spellcheck=\"false\" aria-describedby=\"typed-at\">\n\
+    \x20       <p id=\"typed-at\" class=\"at\" role=\"status\" hidden><span id=\"typed-words\"></span><span id=\"\
+    typed-badge\"></span></p>\n\
+    \x20       <ul id=\"typed-why\" class=\"why\" hidden></ul>\n\
+    \x20     </form>\n\
     \x20   </section>\n\
     \x20   <section aria-labelledby=\"values-title\" class=\"of-cuts\">\n\
     \x20     <h2 id=\"values-title\">Values at the cut</h2>\n\
@@ -384,7 +403,7 @@ pub(crate) const BEFORE: &[u8] = b"\
     their lines, messages, values and predicates, and the answers of its report or the cycle for which it is refu\
     sed, as they are; that this report is right; and that nothing of what it holds is read as mark-up.\n\
     \x20 <strong>Not proved, only tested:</strong> the script of this page, which draws, moves the cut, reads val\
-    ues and decides predicates at it.</p>\n\
+    ues and decides predicates at it, one that is typed too.</p>\n\
     \x20 <p>The page asks nothing of any network.</p>\n\
     </footer>\n\
     <dialog id=\"help\" aria-labelledby=\"help-title\">\n\

@@ -222,13 +222,29 @@ pub(crate) const DIAGRAM: &[u8] = b"\
     \x20 return state.cone !== null && (i <= state.cone.past[p] || i >= state.cone.future[p]);\n\
     }\n\
     \n\
+    // Which messages are drawn as ever: of few lanes all; of many those that the cut touches, of the selected ev\
+    ent, and\n\
+    // those of the processes that the predicate shown names, unless it names all.\n\
+    const LANES_IN_VIEW = 6;\n\
+    function mattering(run, state) {\n\
+    \x20 if (run.size <= LANES_IN_VIEW || run.cycle !== null) return () => true;\n\
+    \x20 const { from, fromEvent, to, toEvent } = run.messages;\n\
+    \x20 const named = state.shown < 0 ? new Set() : processesOf(run.predicates[state.shown].refs);\n\
+    \x20 const isNamed = (p) => named.size < run.size && named.has(p);\n\
+    \x20 const isMarked = (p, i) => i === state.cut[p] || i === state.cut[p] + 1 ||\n\
+    \x20   (state.selected !== null && state.selected.p === p && state.selected.i === i);\n\
+    \x20 return (m) => isNamed(from[m]) || isNamed(to[m]) || isMarked(from[m], fromEvent[m]) || isMarked(to[m], t\
+    oEvent[m]);\n\
+    }\n\
+    \n\
     function drawMessages(scene) {\n\
     \x20 const { context, run, state, palette, size, view, radius } = scene;\n\
     \x20 const { from, fromEvent, to, toEvent } = run.messages;\n\
     \x20 const all = messagesBetween(run, scene.left, scene.right);\n\
     \x20 const every = Math.ceil(all.length / MESSAGE_LIMIT) || 1;\n\
     \x20 const marked = run.cycle === null ? state.forced : run.cycle.map(({ message }) => message);\n\
-    \x20 const lines = { plain: [], crossing: [], dim: [], flight: [], forced: marked };\n\
+    \x20 const lines = { plain: [], quiet: [], crossing: [], dim: [], flight: [], forced: marked };\n\
+    \x20 const matters = mattering(run, state);\n\
     \x20 const forced = new Set(marked);\n\
     \x20 const heads = view.scale >= 7;\n\
     \x20 for (let k = 0; k < all.length; k += every) {\n\
@@ -239,7 +255,7 @@ pub(crate) const DIAGRAM: &[u8] = b"\
     \x20   if (to[m] < 0) { if (heads) lines.flight.push(m); }\n\
     \x20   else if (dim) lines.dim.push(m);\n\
     \x20   else if (sent && toEvent[m] > state.cut[to[m]]) lines.crossing.push(m);\n\
-    \x20   else lines.plain.push(m);\n\
+    \x20   else (matters(m) ? lines.plain : lines.quiet).push(m);\n\
     \x20 }\n\
     \x20 const stroke = (list, colour, alpha, lineWidth, dash) => {\n\
     \x20   if (list.length === 0) return;\n\
@@ -278,6 +294,7 @@ pub(crate) const DIAGRAM: &[u8] = b"\
     \x20 const thin = view.scale < 9 ? 1 : 1.5;   // a line of one pixel is much faster to draw\n\
     \x20 const crowd = Math.min(1, 400 / Math.max(1, all.length / every));\n\
     \x20 stroke(lines.dim, palette.faint, 0.6 * Math.max(0.4, crowd), 1, []);\n\
+    \x20 stroke(lines.quiet, palette.faint, Math.max(0.12, 0.5 * crowd), 1, []);\n\
     \x20 stroke(lines.plain, palette.message, Math.max(0.16, 0.62 * crowd), thin, []);\n\
     \x20 stroke(lines.flight, palette.message, 0.8, 1.5, [5, 4]);\n\
     \x20 stroke(lines.crossing, palette.message, Math.max(0.5, crowd), 2, []);\n\

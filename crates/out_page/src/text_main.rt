@@ -14,6 +14,9 @@ pub(crate) const MAIN: &[u8] = b"\
     umn has if\n\
     // not, and how fine a pixel is.\n\
     const PAPER = { width: 958, names: 138, height: 400, whole: 9, scale: 26, ratio: 3 };\n\
+    // Below the last one of narrow lanes its numbers have some pixels more.\n\
+    const ROOMY_LANE = 48;\n\
+    const UNDER_LAST = 10;\n\
     const HOW_TO_MOVE = \"Move it: click an event, drag a grip, or use the arrow keys on a lane.\";\n\
     \n\
     window.addEventListener(\"error\", (event) => { byId(\"status\").textContent = \"The page failed: \" + event.\
@@ -24,11 +27,11 @@ pub(crate) const MAIN: &[u8] = b"\
     \n\
     const state = {\n\
     \x20 cut: run.counts.map(() => 0), before: run.counts.map(() => 0), forced: [], undo: [],\n\
-    \x20 lane: 0, focused: false, selected: null, cone: null, shown: -1, film: null, query: \"\", hits: [], hit: \
-    -1,\n\
+    \x20 lane: 0, focused: false, selected: null, cone: null, shown: -1, typed: null, film: null, query: \"\", hi\
+    ts: [], hit: -1,\n\
     \x20 view: { left: 0, scale: 1 }, listing: { p: 0, first: 1 },\n\
     };\n\
-    const actions = { show, showCut, openFilm, select, cutTo, unselect: () => select(null) };\n\
+    const actions = { show, showCut, playFilm, select, cutTo, unselect: () => select(null) };\n\
     const canvas = byId(\"diagram\");\n\
     const overview = byId(\"overview\");\n\
     const size = { width: 0, height: 0, top: 0, lane: 0, ratio: 1 };\n\
@@ -53,7 +56,7 @@ pub(crate) const MAIN: &[u8] = b"\
     \x20 size.lane = Math.round(Math.max(34, Math.min(96, sought)));\n\
     \x20 size.width = printing ? PAPER.width - Math.max(PAPER.names, byId(\"lanes\").offsetWidth)\n\
     \x20   : Math.max(120, Math.floor(shell.clientWidth));\n\
-    \x20 size.height = size.top * 2 + size.lane * run.size;\n\
+    \x20 size.height = size.top * 2 + size.lane * run.size + (size.lane < ROOMY_LANE ? UNDER_LAST : 0);\n\
     \x20 document.documentElement.style.setProperty(\"--lane-height\", size.lane + \"px\");\n\
     \x20 fitCanvas(canvas, size.width, size.height);\n\
     \x20 strip.width = Math.max(120, Math.floor(byId(\"stage\").clientWidth));\n\
@@ -222,6 +225,7 @@ pub(crate) const MAIN: &[u8] = b"\
     \n\
     function update() {\n\
     \x20 updatePredicates(run, state, cards);\n\
+    \x20 updateTyped(run, state);\n\
     \x20 updateValues(run, state, rows);\n\
     \x20 updateEvent(run, state, actions);\n\
     \x20 updateListing(run, state, actions);\n\
@@ -297,6 +301,12 @@ pub(crate) const MAIN: &[u8] = b"\
     \n\
     // ---- the film --------------------------------------------------------------------------------------------\
     -------\n\
+    \n\
+    function playFilm(k) {\n\
+    \x20 select(null);   // what lies before and after an event isn't shaded while the film runs\n\
+    \x20 openFilm(k);\n\
+    \x20 if (run.eventCount > 0) play();\n\
+    }\n\
     \n\
     function openFilm(k, step = 0) {\n\
     \x20 pause();\n\
@@ -589,6 +599,28 @@ pub(crate) const MAIN: &[u8] = b"\
     \x20 byId(\"tip\").hidden = true;\n\
     }\n\
     \n\
+    // ---- what is taken along ---------------------------------------------------------------------------------\
+    -------\n\
+    \n\
+    // What is shown of the run, as a file. The address of the file is given back once it is saved.\n\
+    function savePicture() {\n\
+    \x20 canvas.toBlob((blob) => {\n\
+    \x20   const link = element(\"a\", { href: URL.createObjectURL(blob), download: \"run.png\" });\n\
+    \x20   link.click();\n\
+    \x20   setTimeout(() => URL.revokeObjectURL(link.href), 1000);\n\
+    \x20   say(\"The picture is saved as run.png.\");\n\
+    \x20 });\n\
+    }\n\
+    \n\
+    async function copyText() {\n\
+    \x20 try {\n\
+    \x20   await navigator.clipboard.writeText(asText(run, state.cut));\n\
+    \x20   say(\"The verdict, the cut and its values are copied.\");\n\
+    \x20 } catch {\n\
+    \x20   say(\"The browser lets this page copy nothing.\");\n\
+    \x20 }\n\
+    }\n\
+    \n\
     // ---- the address -----------------------------------------------------------------------------------------\
     -------\n\
     \n\
@@ -625,8 +657,8 @@ pub(crate) const MAIN: &[u8] = b"\
     -------\n\
     \n\
     function start() {\n\
-    \x20 document.title = \"monitor: \" + (run.cycle !== null ? \"a causal cycle\"\n\
-    \x20   : run.predicates.map((each) => each.name).join(\", \"));\n\
+    \x20 byId(\"verdict\").textContent = verdictText(run);\n\
+    \x20 document.title = verdictText(run) + \" \xe2\x80\x93 monitor explore\";\n\
     \x20 byId(\"counts\").textContent = counted(run.size, \"process\", \"processes\") + \", \" + counted(run.even\
     tCount, \"event\") +\n\
     \x20   \", \" + counted(run.received, \"message\") +\n\
@@ -634,6 +666,7 @@ pub(crate) const MAIN: &[u8] = b"\
     \x20 makeLanes();\n\
     \x20 cards = makePredicates(run, actions);\n\
     \x20 rows = makeValues(run, actions);\n\
+    \x20 byId(\"typed\").placeholder = \"as \" + (run.predicates[0]?.text ?? \"true\");\n\
     \x20 run.names.forEach((name, p) => byId(\"listing-process\").append(element(\"option\", { value: String(p) }\
     , name)));\n\
     \x20 FILM_SPEEDS.forEach((speed) => byId(\"film-speed\").append(element(\"option\", { value: String(speed) },\
@@ -679,6 +712,8 @@ pub(crate) const MAIN: &[u8] = b"\
     \x20 onClick(\"zoom-out\", () => zoom(1 / 1.5));\n\
     \x20 onClick(\"fit\", () => setView(0, 0));\n\
     \x20 onClick(\"to-cut\", revealCut);\n\
+    \x20 onClick(\"save-picture\", savePicture);\n\
+    \x20 onClick(\"copy-text\", copyText);\n\
     \x20 onClick(\"film-play\", play);\n\
     \x20 onClick(\"film-back\", () => { pause(); toStep(state.film.step - 1); });\n\
     \x20 onClick(\"film-on\", () => { pause(); toStep(state.film.step + 1); });\n\
@@ -707,6 +742,11 @@ pub(crate) const MAIN: &[u8] = b"\
     \x20   clearTimeout(searching);\n\
     \x20   searching = setTimeout(search, 120);\n\
     \x20 });\n\
+    \x20 byId(\"typed\").addEventListener(\"input\", () => {\n\
+    \x20   state.typed = typedPredicate(run, byId(\"typed\").value);\n\
+    \x20   updateTyped(run, state);\n\
+    \x20 });\n\
+    \x20 byId(\"type\").addEventListener(\"submit\", (event) => event.preventDefault());\n\
     \x20 document.addEventListener(\"keydown\", pageKey);\n\
     \x20 window.addEventListener(\"hashchange\", () => { if (location.hash !== written) readAddress(); });\n\
     \x20 new ResizeObserver(() => {\n\

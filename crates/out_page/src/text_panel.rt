@@ -50,10 +50,12 @@ pub(crate) const PANEL: &[u8] = b"\
     // ---- predicates ------------------------------------------------------------------------------------------\
     -------\n\
     \n\
+    // A card leads with what is so of the whole run, and says after its evidence what is so at the cut shown.\n\
     function makePredicates(run, actions) {\n\
     \x20 return run.predicates.map((predicate, k) => {\n\
     \x20   const badge = element(\"span\", { class: \"badge\" });\n\
     \x20   const why = element(\"ul\", { class: \"why\" });\n\
+    \x20   const verdict = verdictOf(predicate);\n\
     \x20   const answers = element(\"dl\", { class: \"answers\" },\n\
     \x20     element(\"dt\", {}, \"Possibly\"), possiblyOf(run, predicate, k, actions),\n\
     \x20     element(\"dt\", {}, \"Definitely\"), definitelyOf(run, predicate, k, actions));\n\
@@ -61,9 +63,12 @@ pub(crate) const PANEL: &[u8] = b"\
     side the cut\",\n\
     \x20                                    click: () => actions.show(k) }, predicate.name);\n\
     \x20   const open = predicate.possibly[0] === \"unknown\" || predicate.definitely[0] === \"unknown\";\n\
-    \x20   const card = element(\"article\", { class: \"predicate\" }, element(\"h3\", {}, name, badge),\n\
-    \x20     element(\"code\", {}, predicate.text), why, answers,\n\
-    \x20     open ? element(\"p\", { class: \"hint\" }, whatToDo(run, predicate.node)) : null);\n\
+    \x20   const card = element(\"article\", { class: \"predicate\" },\n\
+    \x20     element(\"h3\", {}, name, element(\"span\", { class: \"verdict \" + verdict.split(\" \")[0] }, verdi\
+    ct)),\n\
+    \x20     element(\"code\", {}, predicate.text), answers,\n\
+    \x20     open ? element(\"p\", { class: \"hint\" }, whatToDo(run)) : null,\n\
+    \x20     element(\"p\", { class: \"at\" }, \"At the cut shown: \", badge), why);\n\
     \x20   byId(\"predicates\").append(card);\n\
     \x20   return { card, badge, why, name };\n\
     \x20 });\n\
@@ -87,9 +92,12 @@ pub(crate) const PANEL: &[u8] = b"\
     \n\
     function definitelyOf(run, { definitely: [word, evidence] }, k, actions) {\n\
     \x20 if (word === \"no\") {\n\
-    \x20   return given(word, \", an observation avoids it\",\n\
-    \x20     element(\"button\", { type: \"button\", click: () => actions.openFilm(k) }, \"Show the film\"));\n\
+    \x20   return given(word, [],\n\
+    \x20     element(\"button\", { type: \"button\", title: \"play an observation that avoids it\",\n\
+    \x20                         click: () => actions.playFilm(k) }, \"Play the counterexample\"));\n\
     \x20 }\n\
+    \x20 if (word === \"yes\" && Number(evidence) === 0) return given(word, \", before the first event of every o\
+    bservation\");\n\
     \x20 if (word === \"yes\") {\n\
     \x20   return given(word, \", by level \" + evidence + \": in whichever order the events were observed, it wa\
     s true at \" +\n\
@@ -99,9 +107,9 @@ pub(crate) const PANEL: &[u8] = b"\
     th);\n\
     }\n\
     \n\
-    function whatToDo(run, node) {\n\
-    \x20 return \"Unknown isn't no. To decide it: \" + (run.beyondWidth || !isForAnyWidth(node) ? \"\"\n\
-    \x20   : \"the option --beyond-width, which can answer such a predicate whatever the width; \") +\n\
+    function whatToDo(run) {\n\
+    \x20 return \"Unknown isn't no. To decide it: \" + (run.beyondWidth ? \"\"\n\
+    \x20   : \"the option --beyond-width, which decides most predicates whatever the width; \") +\n\
     \x20   (run.width < 65536 ? \"the option --width with a greater width, up to 65536; \" : \"\") +\n\
     \x20   \"a recording with fewer events between the messages.\";\n\
     }\n\
@@ -111,21 +119,44 @@ pub(crate) const PANEL: &[u8] = b"\
     \x20 cards.forEach(({ card, badge, why, name }, k) => {\n\
     \x20   const { node } = run.predicates[k];\n\
     \x20   const truth = isTrue(node, read);\n\
-    \x20   badge.textContent = truth ? \"\xe2\x9c\x93 true\" : \"\xe2\x9c\x97 false\";\n\
+    \x20   badge.textContent = String(truth);\n\
     \x20   badge.className = \"badge \" + truth;\n\
     \x20   card.classList.toggle(\"shown\", k === state.shown);\n\
     \x20   name.setAttribute(\"aria-pressed\", String(k === state.shown));\n\
-    \x20   const reasons = deciding(node, read).filter((reason) => reason.why !== \"\");\n\
-    \x20   renew(why, reasons.map((reason) => reason.text + reason.why).join(), () => [\n\
-    \x20     ...reasons.slice(0, REASONS_SHOWN).map(({ text, holds, negated, why: words }) =>\n\
-    \x20       element(\"li\", { class: holds ? \"holds\" : \"fails\" }, element(\"code\", {}, text), (holds ? \"\
-    \x20holds\" : \" fails\") +\n\
-    \x20         (negated ? \", under not: \" : \": \") + words)),\n\
-    \x20     ...(reasons.length <= REASONS_SHOWN ? []\n\
-    \x20       : [element(\"li\", {}, \"and \" + counted(reasons.length - REASONS_SHOWN, \"comparison\") + \" mor\
-    e\")]),\n\
-    \x20   ]);\n\
+    \x20   updateReasons(why, node, read);\n\
     \x20 });\n\
+    }\n\
+    \n\
+    // Which comparisons decide a predicate.\n\
+    function updateReasons(why, node, read) {\n\
+    \x20 const reasons = deciding(node, read).filter((reason) => reason.why !== \"\");\n\
+    \x20 renew(why, reasons.map((reason) => reason.text + reason.why).join(), () => [\n\
+    \x20   ...reasons.slice(0, REASONS_SHOWN).map(({ text, holds, negated, why: words }) =>\n\
+    \x20     element(\"li\", { class: holds ? \"holds\" : \"fails\" }, element(\"code\", {}, text), (holds ? \" h\
+    olds\" : \" fails\") +\n\
+    \x20       (negated ? \", under not: \" : \": \") + words)),\n\
+    \x20   ...(reasons.length <= REASONS_SHOWN ? []\n\
+    \x20     : [element(\"li\", {}, \"and \" + counted(reasons.length - REASONS_SHOWN, \"comparison\") + \" more\"\
+    )]),\n\
+    \x20 ]);\n\
+    }\n\
+    \n\
+    // The predicate that was typed, at the cut shown: nothing is said of the whole run.\n\
+    function updateTyped(run, state) {\n\
+    \x20 const { typed } = state;\n\
+    \x20 byId(\"typed-at\").hidden = typed === null;\n\
+    \x20 byId(\"typed-why\").hidden = typed === null || typed.node === null;\n\
+    \x20 if (typed === null) return;\n\
+    \x20 const badge = byId(\"typed-badge\");\n\
+    \x20 badge.hidden = typed.node === null;\n\
+    \x20 badge.textContent = \"\";\n\
+    \x20 byId(\"typed-words\").textContent = typed.node === null ? typed.wrong : \"At the cut shown: \";\n\
+    \x20 if (typed.node === null) return;\n\
+    \x20 const read = reader(run, state.cut);\n\
+    \x20 const truth = isTrue(typed.node, read);\n\
+    \x20 badge.textContent = String(truth);\n\
+    \x20 badge.className = \"badge \" + truth;\n\
+    \x20 updateReasons(byId(\"typed-why\"), typed.node, read);\n\
     }\n\
     \n\
     // The predicates whose truth differs between two cuts, in words.\n\
@@ -135,6 +166,18 @@ pub(crate) const PANEL: &[u8] = b"\
     \x20   const truth = isTrue(node, reader(run, after));\n\
     \x20   return truth === isTrue(node, reader(run, before)) ? [] : [name + \" is \" + truth + \" now.\"];\n\
     \x20 });\n\
+    }\n\
+    \n\
+    // The run, the cut and the values at it as lines of text, to be pasted into a report of a bug.\n\
+    function asText(run, cut) {\n\
+    \x20 const values = run.names.map((name, p) => name + \" after \" + cut[p] + \" of \" + counted(run.counts[p]\
+    , \"event\") +\n\
+    \x20   run.vars[p].map(({ name: variable }, v) => \", \" + variable + \" = \" + valueAt(run, p, v, cut[p])).j\
+    oin(\"\"));\n\
+    \x20 const answers = run.predicates.map((each) => each.name + \" \" + verdictOf(each) + \", and is \" +\n\
+    \x20   isTrue(each.node, reader(run, cut)) + \" at this cut: \" + each.text);\n\
+    \x20 return [verdictText(run) + \".\", ...answers, \"The cut \" + cut.join(\",\") + \":\", ...values, \"\"].j\
+    oin(\"\\n\");\n\
     }\n\
     \n\
     // Which predicates are true at a cut, in words.\n\
@@ -185,13 +228,29 @@ pub(crate) const PANEL: &[u8] = b"\
     \x20     rows.push({ p, v, row, value, by });\n\
     \x20     body.append(row);\n\
     \x20   });\n\
-    \x20   rows.push({ p, v: -1, count });\n\
+    \x20   rows.push({ p, v: -1, count, body });\n\
     \x20   byId(\"values\").append(body);\n\
     \x20 });\n\
     \x20 return rows.map((row) => ({ ...row, select: (i) => actions.select(row.p, i) }));\n\
     }\n\
     \n\
+    // The processes that the predicate shown names come first, with what it names of them marked.\n\
+    let orderedFor = null;\n\
+    function orderValues(run, state, rows) {\n\
+    \x20 if (orderedFor === state.shown) return;\n\
+    \x20 orderedFor = state.shown;\n\
+    \x20 const refs = state.shown < 0 || run.cycle !== null ? [] : run.predicates[state.shown].refs;\n\
+    \x20 const named = processesOf(refs);\n\
+    \x20 const isNamed = (p, v) => refs.some((ref) => ref[0] === p && ref[1] === v);\n\
+    \x20 const bodies = rows.filter(({ v }) => v < 0);\n\
+    \x20 for (const { p, v, row } of rows) if (v >= 0) row.classList.toggle(\"named\", isNamed(p, v));\n\
+    \x20 byId(\"values\").append(...[...bodies.filter(({ p }) => named.has(p)), ...bodies.filter(({ p }) => !name\
+    d.has(p))]\n\
+    \x20   .map(({ body }) => body));\n\
+    }\n\
+    \n\
     function updateValues(run, state, rows) {\n\
+    \x20 orderValues(run, state, rows);\n\
     \x20 for (const { p, v, row, value, by, count, select } of rows) {\n\
     \x20   const events = state.cut[p];\n\
     \x20   if (v < 0) {\n\
@@ -290,7 +349,7 @@ pub(crate) const PANEL: &[u8] = b"\
     \x20       { type: \"button\", class: \"plain\", click: () => actions.select(end.p, end.i) }, placeText(run, \
     end.p, end.i))]));\n\
     \x20 }\n\
-    \x20 const buttons = [[\"Let go\", () => actions.unselect()]];\n\
+    \x20 const buttons = [[\"Deselect\", () => actions.unselect()]];\n\
     \x20 if (state.cone !== null) {\n\
     \x20   const { before, after, beside } = state.cone;\n\
     \x20   add(\"Around it\", counted(before, \"event\") + \" before it, \" + after.toLocaleString(\"en\") + \" a\

@@ -423,13 +423,46 @@ pub(crate) const RUN: &[u8] = b"\
     \x20 return [...refs.values()];\n\
     }\n\
     \n\
-    // Can a predicate be answered whatever the width? It names no more than two processes, or one in each compar\
-    ison.\n\
-    function isForAnyWidth(node) {\n\
-    \x20 const processes = (each) => new Set(refsOf(each).map(([p]) => p)).size;\n\
-    \x20 const areAlone = (each) => (each.kind === \"compare\" ? processes(each) <= 1\n\
-    \x20   : (each.parts ?? (each.part === undefined ? [] : [each.part])).every(areAlone));\n\
-    \x20 return processes(node) <= 2 || areAlone(node);\n\
+    // What the answers say of the whole run, in two words: an answer that is yes counts before one that is unkno\
+    wn.\n\
+    function verdictOf({ possibly: [possibly], definitely: [definitely] }) {\n\
+    \x20 if (definitely === \"yes\") return \"always happens\";\n\
+    \x20 if (possibly === \"yes\") return \"can happen\";\n\
+    \x20 return possibly === \"no\" ? \"cannot happen\" : \"unknown\";\n\
+    }\n\
+    \n\
+    // The verdict on the run: which predicates happen, and how many are unknown.\n\
+    const NAMES_SHOWN = 3;\n\
+    function verdictText(run) {\n\
+    \x20 if (run.cycle !== null) return \"Refused: a causal cycle\";\n\
+    \x20 const of = (...verdicts) =>\n\
+    \x20   run.predicates.filter((each) => verdicts.includes(verdictOf(each))).map(({ name }) => name);\n\
+    \x20 const [only] = run.predicates;\n\
+    \x20 if (run.predicates.length === 1) {\n\
+    \x20   return verdictOf(only) === \"unknown\" ? \"It is unknown whether \" + only.name + \" can happen\"\n\
+    \x20     : only.name + \" \" + verdictOf(only);\n\
+    \x20 }\n\
+    \x20 const [happen, always, unknown] = [of(\"can happen\", \"always happens\"), of(\"always happens\"), of(\"\
+    unknown\")];\n\
+    \x20 const listed = (names) => names.slice(0, NAMES_SHOWN).join(\", \") +\n\
+    \x20   (names.length > NAMES_SHOWN ? \" and \" + (names.length - NAMES_SHOWN) + \" more\" : \"\");\n\
+    \x20 const all = \" of \" + run.predicates.length + \" predicates \";\n\
+    \x20 if (happen.length === 0) {\n\
+    \x20   return unknown.length === 0 ? \"None\" + all + \"can happen\" : unknown.length + all +\n\
+    \x20     (unknown.length === 1 ? \"is unknown\" : \"are unknown\") +\n\
+    \x20     (unknown.length < run.predicates.length ? \"; no other can happen\" : \"\");\n\
+    \x20 }\n\
+    \x20 const parts = [happen.length + all + \"can happen: \" + listed(happen)];\n\
+    \x20 if (always.length > 0) parts.push(listed(always) + \" always \" + (always.length === 1 ? \"happens\" : \"\
+    happen\"));\n\
+    \x20 if (unknown.length > 0) parts.push(unknown.length + (unknown.length === 1 ? \" is\" : \" are\") + \" unk\
+    nown\");\n\
+    \x20 return parts.join(\"; \");\n\
+    }\n\
+    \n\
+    // The processes that a predicate names.\n\
+    function processesOf(refs) {\n\
+    \x20 return new Set(refs.map(([p]) => p));\n\
     }\n\
     \n\
     function sumOf(terms, read) {\n\
@@ -507,6 +540,153 @@ pub(crate) const RUN: &[u8] = b"\
     \x20 return text + \" = \" + sum;\n\
     }\n\
     \n\
+    // ---- a predicate that is typed ---------------------------------------------------------------------------\
+    -------\n\
+    \n\
+    // Why a text is no predicate of this run.\n\
+    class Unread extends Error {}\n\
+    \n\
+    const TOKEN = /[ \\t]*(?:([A-Za-z_]\\w*|\\d+|==|!=|<=|>=|[<>()+\\-*.])|$)/y;\n\
+    const KEYWORDS = [\"and\", \"or\", \"not\", \"true\", \"false\"];\n\
+    const NESTED = 64;\n\
+    const NUMBER_LIMIT = 2n ** 63n - 1n;\n\
+    const FACTOR_LIMIT = 2n ** 31n - 1n;\n\
+    \n\
+    function tokensOf(text) {\n\
+    \x20 const tokens = [];\n\
+    \x20 TOKEN.lastIndex = 0;\n\
+    \x20 while (TOKEN.lastIndex < text.length) {\n\
+    \x20   const at = TOKEN.lastIndex;\n\
+    \x20   const match = TOKEN.exec(text);\n\
+    \x20   if (match === null) {\n\
+    \x20     throw new Unread(\"\xe2\x80\x9c\" + text.slice(at).trim().slice(0, 8) + \"\xe2\x80\x9d begins no wor\
+    d, number or sign.\");\n\
+    \x20   }\n\
+    \x20   if (match[1] === undefined) break;\n\
+    \x20   tokens.push(match[1]);\n\
+    \x20 }\n\
+    \x20 return tokens;\n\
+    }\n\
+    \n\
+    // Reads the tree of a predicate's text, as the data has it. An `and` and an `or` group from the left.\n\
+    class PredicateText {\n\
+    \x20 constructor(run, text) {\n\
+    \x20   this.run = run;\n\
+    \x20   this.tokens = tokensOf(text);\n\
+    \x20   this.at = 0;\n\
+    \x20   this.depth = 0;\n\
+    \x20 }\n\
+    \n\
+    \x20 take(...words) {\n\
+    \x20   return words.includes(this.tokens[this.at]) ? this.tokens[this.at++] : null;\n\
+    \x20 }\n\
+    \n\
+    \x20 need(...words) {\n\
+    \x20   const word = this.take(...words);\n\
+    \x20   if (word === null) throw this.wrong(words.join(\" \"));\n\
+    \x20   return word;\n\
+    \x20 }\n\
+    \n\
+    \x20 wrong(wanted) {\n\
+    \x20   const found = this.tokens[this.at];\n\
+    \x20   return new Unread(\"Expected \" + wanted + (found === undefined ? \" at the end.\" : \", not \xe2\x80\x9c\
+    \" + found + \"\xe2\x80\x9d.\"));\n\
+    \x20 }\n\
+    \n\
+    \x20 whole() {\n\
+    \x20   const tree = this.disjunction();\n\
+    \x20   if (this.at < this.tokens.length) throw this.wrong(\"and, or, or the end\");\n\
+    \x20   return tree;\n\
+    \x20 }\n\
+    \n\
+    \x20 joined(word, part) {\n\
+    \x20   let tree = part();\n\
+    \x20   while (this.take(word) !== null) tree = [word, tree, part()];\n\
+    \x20   return tree;\n\
+    \x20 }\n\
+    \n\
+    \x20 inside(part) {\n\
+    \x20   this.depth++;\n\
+    \x20   if (this.depth > NESTED) throw new Unread(\"More than \" + NESTED + \" parentheses and nots stand insi\
+    de each other.\");\n\
+    \x20   const tree = part();\n\
+    \x20   this.depth--;\n\
+    \x20   return tree;\n\
+    \x20 }\n\
+    \n\
+    \x20 disjunction() {\n\
+    \x20   return this.joined(\"or\", () => this.joined(\"and\", () => this.operand()));\n\
+    \x20 }\n\
+    \n\
+    \x20 operand() {\n\
+    \x20   if (this.take(\"not\") !== null) return [\"not\", this.inside(() => this.operand())];\n\
+    \x20   if (this.take(\"(\") !== null) {\n\
+    \x20     const tree = this.inside(() => this.disjunction());\n\
+    \x20     this.need(\")\");\n\
+    \x20     return tree;\n\
+    \x20   }\n\
+    \x20   const constant = this.take(\"true\", \"false\");\n\
+    \x20   return constant === null ? this.comparison() : [constant];\n\
+    \x20 }\n\
+    \n\
+    \x20 comparison() {\n\
+    \x20   const left = this.sum();\n\
+    \x20   const relation = this.need(...Object.values(RELATIONS));\n\
+    \x20   return [Object.keys(RELATIONS).find((word) => RELATIONS[word] === relation), left, this.sum()];\n\
+    \x20 }\n\
+    \n\
+    \x20 sum() {\n\
+    \x20   const terms = [[this.take(\"-\") ?? \"+\", ...this.term()]];\n\
+    \x20   for (let sign = this.take(\"+\", \"-\"); sign !== null; sign = this.take(\"+\", \"-\")) {\n\
+    \x20     terms.push([sign, ...this.term()]);\n\
+    \x20   }\n\
+    \x20   return terms;\n\
+    \x20 }\n\
+    \n\
+    \x20 term() {\n\
+    \x20   if (!/^\\d/.test(this.tokens[this.at] ?? \"\")) return this.reference();\n\
+    \x20   const number = BigInt(this.tokens[this.at++]);\n\
+    \x20   const isFactor = this.take(\"*\") !== null;\n\
+    \x20   if (number > (isFactor ? FACTOR_LIMIT : NUMBER_LIMIT)) throw new Unread(\"The number \" + number + \" \
+    is too great.\");\n\
+    \x20   return isFactor ? [String(number), ...this.reference()] : [String(number)];\n\
+    \x20 }\n\
+    \n\
+    \x20 name(wanted) {\n\
+    \x20   const word = this.tokens[this.at] ?? \"\";\n\
+    \x20   if (!/^[A-Za-z_]/.test(word) || KEYWORDS.includes(word)) throw this.wrong(wanted);\n\
+    \x20   this.at++;\n\
+    \x20   return word;\n\
+    \x20 }\n\
+    \n\
+    \x20 reference() {\n\
+    \x20   const process = this.name(\"a number or a variable, as \" + this.run.names[0] + \".x\");\n\
+    \x20   const p = this.run.names.indexOf(process);\n\
+    \x20   if (p < 0) throw new Unread(\"No process is called \xe2\x80\x9c\" + process + \"\xe2\x80\x9d.\");\n\
+    \x20   this.need(\".\");\n\
+    \x20   const variable = this.name(\"a variable of \" + process);\n\
+    \x20   const v = this.run.vars[p].findIndex((each) => each.name === variable);\n\
+    \x20   if (v < 0) throw new Unread(\"Process \" + process + \" has no variable \xe2\x80\x9c\" + variable + \"\
+    \xe2\x80\x9d.\");\n\
+    \x20   return [p, v];\n\
+    \x20 }\n\
+    }\n\
+    \n\
+    function parsePredicate(run, text) {\n\
+    \x20 return new PredicateText(run, text).whole();\n\
+    }\n\
+    \n\
+    // The predicate that a text is, or in words why it is none; nothing of an empty text.\n\
+    function typedPredicate(run, text) {\n\
+    \x20 if (text.trim() === \"\") return null;\n\
+    \x20 try {\n\
+    \x20   return { node: readPredicate(parsePredicate(run, text), run.names, run.vars), wrong: \"\" };\n\
+    \x20 } catch (error) {\n\
+    \x20   if (!(error instanceof Unread)) throw error;\n\
+    \x20   return { node: null, wrong: error.message };\n\
+    \x20 }\n\
+    }\n\
+    \n\
     // ---- observations ----------------------------------------------------------------------------------------\
     -------\n\
     \n\
@@ -561,14 +741,27 @@ pub(crate) const RUN: &[u8] = b"\
     \x20 if (match !== null) {\n\
     \x20   for (const p of asked(match[1])) add(p, Number(match[2]), \"is event \" + match[2]);\n\
     \x20 }\n\
+    \x20 const addEvents = (p) => {\n\
+    \x20   for (let i = 1; i <= run.counts[p]; i++) add(p, i, \"is an event of \" + run.names[p]);\n\
+    \x20 };\n\
     \x20 const process = run.names.indexOf(text);\n\
-    \x20 if (process >= 0) {\n\
-    \x20   for (let i = 1; i <= run.counts[process]; i++) add(process, i, \"is an event of \" + text);\n\
-    \x20 }\n\
+    \x20 if (process >= 0) addEvents(process);\n\
     \x20 const named = ids.includes(text);\n\
-    \x20 if (named || (hits.size === 0 && text.length > 1)) {\n\
-    \x20   ids.forEach((id, m) => { if (named ? id === text : id.includes(text)) addMessage(m); });\n\
-    \x20 }\n\
+    \x20 if (named) ids.forEach((id, m) => { if (id === text) addMessage(m); });\n\
+    \x20 if (hits.size > 0 || text.length < 2) return inOrder(run, hits);\n\
+    \x20 // Nothing is called so: what has it as a part of its name.\n\
+    \x20 const part = text.toLowerCase();\n\
+    \x20 const has = (name) => name.toLowerCase().includes(part);\n\
+    \x20 run.names.forEach((name, p) => { if (has(name)) addEvents(p); });\n\
+    \x20 run.vars.forEach((vars, p) => vars.filter(({ name }) => has(name)).forEach(({ name, at, values }) => {\n\
+    \x20   at.forEach((i, k) => add(p, i, \"sets \" + name + \" to \" + values[k]));\n\
+    \x20 }));\n\
+    \x20 ids.forEach((id, m) => { if (has(id)) addMessage(m); });\n\
+    \x20 return inOrder(run, hits);\n\
+    }\n\
+    \n\
+    // Hits by column and process.\n\
+    function inOrder(run, hits) {\n\
     \x20 return [...hits.values()].sort((a, b) => run.columns[a.p][a.i] - run.columns[b.p][b.i] || a.p - b.p);\n\
     }\n\
     \n\
@@ -616,7 +809,7 @@ pub(crate) const RUN: &[u8] = b"\
     ate, isTrue,\n\
     \x20                    deciding, stepsOf, cutAtStep, find, fragmentOf, readFragment, sentBy, lineOf, sourceO\
     f,\n\
-    \x20                    isForAnyWidth };\n\
+    \x20                    verdictOf, verdictText, parsePredicate, typedPredicate };\n\
     }\n\
     </script>\n\
     ";
