@@ -408,6 +408,47 @@ monitor_status monitor_to_port(const char *process, uint16_t port, double second
     return status;
 }
 
+/* The digits of the port that the place is one of this machine, or NULL if it is none. */
+static const char *port_digits(const char *place)
+{
+    static const char *const hosts[] = {":", "localhost:", "127.0.0.1:"};
+    for (size_t i = 0; i < sizeof hosts / sizeof *hosts; i++) {
+        size_t size = strlen(hosts[i]);
+        const char *digits = place + size;
+        if (strncmp(place, hosts[i], size) == 0 && digits[0] != '\0' && strlen(digits) <= 5 &&
+            strspn(digits, "0123456789") == strlen(digits))
+            return digits;
+    }
+    return NULL;
+}
+
+monitor_status monitor_from_environment(const char *process, monitor_recorder **made)
+{
+    *made = NULL;
+    if (!is_name(process))
+        return MONITOR_PROCESS_NAME;
+    const char *place = getenv("MONITOR_TO");
+    if (place == NULL || place[0] == '\0')
+        return MONITOR_WHERE;
+    const char *digits = port_digits(place);
+    if (digits != NULL) {
+        long port = strtol(digits, NULL, 10);
+        return port < 1 || port > 65534 ? MONITOR_WHERE : monitor_to_port(process, (uint16_t)port, 10, made);
+    }
+    if (mkdir(place, 0777) != 0 && errno != EEXIST)
+        return MONITOR_SYSTEM;
+    size_t room = strlen(place) + strlen(process) + sizeof "/.stream";
+    char *path = malloc(room);
+    if (path == NULL)
+        return MONITOR_SYSTEM;
+    snprintf(path, room, "%s/%s.stream", place, process);
+    monitor_status status = monitor_to_file(process, path, made);
+    int error = errno;
+    free(path);
+    errno = error;
+    return status;
+}
+
 /* Whether an event may be recorded; the lock is held. One of a strand's events is kept for its end. */
 static monitor_status room_of(const monitor_recorder *recorder)
 {
@@ -733,6 +774,7 @@ const char *monitor_text(monitor_status status)
     case MONITOR_PROCESSES: return "a session has at most 16 processes, and a process and its strands are as many";
     case MONITOR_NO_PLACE: return "no place for the stream of a strand: record to a file or a port by its name";
     case MONITOR_NOT_ENDED: return "not a strand that has ended: wait for it, and then join it";
+    case MONITOR_WHERE: return "MONITOR_TO names no place: it names a folder, or a port from 1 to 65534 as :7411";
     }
     return "not a status";
 }

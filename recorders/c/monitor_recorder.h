@@ -71,7 +71,8 @@ typedef enum {
     MONITOR_NAME_TWICE,    /* the name is that of the process or of another strand of it */
     MONITOR_PROCESSES,     /* a process and its strands are at most 16, since a session has no more processes */
     MONITOR_NO_PLACE,      /* the recorder was made for a descriptor: there is no place for the stream of a strand */
-    MONITOR_NOT_ENDED      /* what is to be joined is no strand that has ended */
+    MONITOR_NOT_ENDED,     /* what is to be joined is no strand that has ended */
+    MONITOR_WHERE          /* MONITOR_TO isn't set, or is a port that there isn't */
 } monitor_status;
 
 /* Records to a new file. One that is there already is MONITOR_SYSTEM with EEXIST. */
@@ -80,6 +81,11 @@ monitor_status monitor_to_file(const char *process, const char *path, monitor_re
 /* Records to `monitor serve` on a port of this machine. If nobody listens there yet, it is tried again until these
  * seconds have passed. A later call waits while the monitor doesn't read. */
 monitor_status monitor_to_port(const char *process, uint16_t port, double seconds, monitor_recorder **made);
+
+/* Records to where MONITOR_TO in the environment says, so that no code changes between a test and a live session: to a
+ * new file NAME.stream in a folder of this name, which is made if there is none; or to `monitor serve` on a port of this
+ * machine, of :7411 or localhost:7411, for which ten seconds are waited. */
+monitor_status monitor_from_environment(const char *process, monitor_recorder **made);
 
 /* Records to a file, a pipe or a connection that is open for writing, and waits if it can't write. If this succeeds,
  * the descriptor is closed with the recorder. A pipe that nobody reads any more raises SIGPIPE. */

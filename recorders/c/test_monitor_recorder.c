@@ -168,6 +168,50 @@ static void test_a_port_on_which_nobody_listens(void)
     close(bound);
 }
 
+static void test_a_place_that_the_environment_names(void)
+{
+    static const char *const hosts[] = {"", "localhost", "127.0.0.1"};
+    static const char *const wrong[] = {"", ":0", ":65535", "localhost:99999"};
+    struct sockaddr_in address = {.sin_family = AF_INET};
+    socklen_t size = sizeof address;
+    monitor_recorder *recorder;
+    char place[64], text[64] = {0};
+    unlink("into/left.stream");
+    setenv("MONITOR_TO", "into", 1);
+    for (int i = 0; i < 2; i++) {
+        unlink("into/left.stream");
+        RECORDED(monitor_from_environment("left", &recorder));
+        RECORDED(monitor_close(recorder));
+    }
+    CHECK(has_text("into/left.stream", "{\"process\":\"left\"}\n{\"end\":true}\n"));
+    CHECK(monitor_from_environment("left", &recorder) == MONITOR_SYSTEM && errno == EEXIST && recorder == NULL);
+    address.sin_addr.s_addr = htonl(INADDR_LOOPBACK);
+    int bound = socket(AF_INET, SOCK_STREAM, 0);
+    CHECK(bind(bound, (struct sockaddr *)&address, size) == 0 && listen(bound, 4) == 0);
+    CHECK(getsockname(bound, (struct sockaddr *)&address, &size) == 0);
+    for (size_t i = 0; i < sizeof hosts / sizeof *hosts; i++) {
+        snprintf(place, sizeof place, "%s:%d", hosts[i], ntohs(address.sin_port));
+        setenv("MONITOR_TO", place, 1);
+        RECORDED(monitor_from_environment("left", &recorder));
+        int accepted = accept(bound, NULL, NULL);
+        RECORDED(monitor_close(recorder));
+        ssize_t count, at = 0;
+        while ((count = read(accepted, text + at, sizeof text - 1 - (size_t)at)) > 0)
+            at += count;
+        text[at] = '\0';
+        CHECK(strcmp(text, "{\"process\":\"left\"}\n{\"end\":true}\n") == 0);
+        close(accepted);
+    }
+    close(bound);
+    for (size_t i = 0; i < sizeof wrong / sizeof *wrong; i++) {
+        setenv("MONITOR_TO", wrong[i], 1);
+        CHECK(monitor_from_environment("left", &recorder) == MONITOR_WHERE && recorder == NULL);
+    }
+    CHECK(monitor_from_environment("and", &recorder) == MONITOR_PROCESS_NAME);
+    unsetenv("MONITOR_TO");
+    CHECK(monitor_from_environment("left", &recorder) == MONITOR_WHERE);
+}
+
 static monitor_recorder *strand_of(monitor_recorder *recorder, const char *name, const char *file)
 {
     monitor_recorder *strand = NULL;
@@ -292,6 +336,7 @@ int main(int count, char **arguments)
     test_a_fork_does_not_record();
     test_a_peer_that_is_gone();
     test_a_port_on_which_nobody_listens();
+    test_a_place_that_the_environment_names();
     test_threads_with_a_strand_each();
     test_strands_end_with_their_process();
     test_the_working_directory_may_change();

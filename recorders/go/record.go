@@ -61,8 +61,9 @@ const (
 )
 
 const (
-	patience = 10 * time.Second
-	pause    = 50 * time.Millisecond
+	patience  = 10 * time.Second
+	pause     = 50 * time.Millisecond
+	portLimit = 65534
 )
 
 // ErrNotRecorded is what each error of a call is, by errors.Is, that was refused and wrote nothing.
@@ -97,6 +98,8 @@ var (
 	ErrNoPlace error = refusal("no place for the stream of a strand: make the recorder by ToFile or ToPort")
 	// ErrNotEnded: what is to be joined is no strand that has ended.
 	ErrNotEnded error = refusal("no strand that has ended: wait for it, and then join it")
+	// ErrPlace says that MONITOR_TO isn't set, or isn't a port that there is.
+	ErrPlace error = refusal("MONITOR_TO names no place: it names a folder, or a port from 1 to 65534 as :7411")
 )
 
 type refusal string
@@ -188,6 +191,33 @@ func ToPort(ctx context.Context, process string, port int) (*Recorder, error) {
 	return over(process, connection, func(string) (io.WriteCloser, error) {
 		return connectionTo(context.Background(), port)
 	})
+}
+
+// FromEnvironment records to where MONITOR_TO in the environment says, so that no code changes between a test and a
+// live session: to a new file NAME.stream in a folder of this name, which is made if there is none; or to monitor serve
+// on a port of this machine, of :7411 or localhost:7411.
+func FromEnvironment(ctx context.Context, process string) (*Recorder, error) {
+	if !isName(process) {
+		return nil, refused(process, ErrProcessName)
+	}
+	place := os.Getenv("MONITOR_TO")
+	host, digits, isPort := strings.Cut(place, ":")
+	port, err := strconv.ParseUint(digits, 10, 16)
+	isPort = isPort && (host == "" || host == "localhost" || host == "127.0.0.1") && isDecimal(digits)
+	switch {
+	case place == "" || isPort && (err != nil || port < 1 || port > portLimit):
+		return nil, refused(place, ErrPlace)
+	case isPort:
+		return ToPort(ctx, process, int(port))
+	}
+	if err := os.MkdirAll(place, 0o777); err != nil {
+		return nil, err
+	}
+	return ToFile(process, filepath.Join(place, process+".stream"))
+}
+
+func isDecimal(text string) bool {
+	return len(text) >= 1 && len(text) <= 5 && strings.Trim(text, "0123456789") == ""
 }
 
 // New records to a file, a connection or whatever else takes bytes, without a buffer of its own. It is closed with the

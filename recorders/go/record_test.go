@@ -11,6 +11,7 @@ import (
 	"net"
 	"os"
 	"path/filepath"
+	"strconv"
 	"strings"
 	"syscall"
 	"testing"
@@ -174,6 +175,44 @@ func TestAPortOnWhichNobodyListens(t *testing.T) {
 	_, err = ToPort(late, "left", port)
 	see(t, err, context.DeadlineExceeded)
 	_, err = ToPort(context.Background(), "and", port)
+	see(t, err, ErrProcessName)
+}
+
+func TestAPlaceThatTheEnvironmentNames(t *testing.T) {
+	at := func(place, name string) (*Recorder, error) {
+		t.Setenv("MONITOR_TO", place)
+		return FromEnvironment(context.Background(), name)
+	}
+	folder := filepath.Join(t.TempDir(), "new", "folder")
+	for _, name := range []string{"left", "right"} {
+		r, err := at(folder, name)
+		see(t, err, nil)
+		see(t, r.End(), nil)
+	}
+	_, err := at(folder, "left")
+	see(t, err, fs.ErrExist)
+	listener, err := net.Listen("tcp4", "127.0.0.1:0")
+	see(t, err, nil)
+	defer listener.Close()
+	port := strconv.Itoa(listener.Addr().(*net.TCPAddr).Port)
+	for _, host := range []string{"", "localhost", "127.0.0.1"} {
+		r, err := at(host+":"+port, "left")
+		see(t, err, nil)
+		connection, err := listener.Accept()
+		see(t, err, nil)
+		see(t, r.End(), nil)
+		text, err := io.ReadAll(connection)
+		see(t, err, nil)
+		if string(text) != "{\"process\":\"left\"}\n{\"end\":true}\n" {
+			t.Errorf("the connection has %q", text)
+		}
+		connection.Close()
+	}
+	for _, place := range []string{"", ":0", ":65535", "localhost:99999"} {
+		_, err := at(place, "left")
+		see(t, err, ErrPlace)
+	}
+	_, err = at(folder, "and")
 	see(t, err, ErrProcessName)
 }
 

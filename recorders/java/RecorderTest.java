@@ -40,6 +40,7 @@ final class RecorderTest {
         anInterruptedThreadRecords(folder);
         files(folder);
         aPortOnWhichNobodyListens();
+        aPlaceThatTheEnvironmentNames();
         threadsWithAStrandEach(folder);
         aStrandThatIsLeftByAnExceptionHasEnded(folder);
         strandsAreClosedWithTheirProcess(folder);
@@ -167,6 +168,29 @@ final class RecorderTest {
         seeThrown(FileAlreadyExistsException.class, () -> Recorder.toFile("left", path));
         see(Files.readString(path), JOIN + END);
         seeThrown(IOException.class, () -> Recorder.toFile("left", folder.resolve("none").resolve("left.stream")));
+    }
+
+    private static void aPlaceThatTheEnvironmentNames() throws IOException {
+        Path into = Files.createTempDirectory("recorder").resolve("new").resolve("folder");
+        Recorder.toPlace("left", into.toString()).end();
+        see(Files.readString(into.resolve("left.stream")), JOIN + END);
+        seeThrown(FileAlreadyExistsException.class, () -> Recorder.toPlace("left", into.toString()));
+        try (ServerSocket server = new ServerSocket(0, 4, InetAddress.getLoopbackAddress())) {
+            for (String host : new String[] {"", "localhost", "127.0.0.1"}) {
+                Recorder recorder = Recorder.toPlace("left", host + ":" + server.getLocalPort());
+                try (Socket accepted = server.accept()) {
+                    recorder.end();
+                    see(new String(accepted.getInputStream().readAllBytes()), JOIN + END);
+                }
+            }
+        }
+        for (String place : new String[] {"", ":0", ":65535", "localhost:99999"}) {
+            seeThrown(NotRecordedException.class, () -> Recorder.toPlace("left", place));
+        }
+        seeThrown(NotRecordedException.class, () -> Recorder.toPlace("and", into.toString()));
+        if (System.getenv("MONITOR_TO") == null) {
+            seeThrown(NotRecordedException.class, () -> Recorder.fromEnvironment("left"));
+        }
     }
 
     private static void aPortOnWhichNobodyListens() throws IOException {

@@ -34,6 +34,7 @@
 const { AsyncLocalStorage } = require("node:async_hooks");
 const fs = require("node:fs");
 const path = require("node:path");
+const { env: environment } = require("node:process");
 const { fileURLToPath } = require("node:url");
 const { Worker } = require("node:worker_threads");
 
@@ -101,6 +102,25 @@ class Recorder {
   static async toPort(process, port, { seconds = PATIENCE_SECONDS } = {}) {
     checkedName("process", process);
     return Recorder.#over(process, await Connection.to(port, seconds), () => Connection.now(port, seconds));
+  }
+
+  /**
+   * Records to where MONITOR_TO in the environment says, so that no code changes between a test and a live session: to
+   * a new file NAME.stream in a folder of this name, which is made if there is none; or to `monitor serve` on a port of
+   * this machine, of :7411 or localhost:7411.
+   */
+  static async fromEnvironment(process) {
+    checkedName("process", process);
+    const place = environment.MONITOR_TO ?? "";
+    const advice = "it names a folder, or a port from 1 to 65534 as :7411";
+    if (place === "") throw new NotRecorded("place", `MONITOR_TO isn't set: ${advice}`);
+    const port = /^(?:localhost|127\.0\.0\.1)?:([0-9]{1,5})$/.exec(place);
+    if (port === null) {
+      fs.mkdirSync(place, { recursive: true });
+      return Recorder.toFile(process, path.join(place, `${process}.stream`));
+    }
+    if (port[1] < 1 || port[1] > 65_534) throw new NotRecorded("place", `MONITOR_TO is ${place}: ${advice}`);
+    return Recorder.toPort(process, Number(port[1]));
   }
 
   static #over(process, out, opened) {

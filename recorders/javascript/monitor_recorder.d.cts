@@ -37,6 +37,8 @@ export type Reason =
   | "no-place"
   /** What is to be joined is no strand that has ended. */
   | "not-ended"
+  /** MONITOR_TO isn't set, or is a port that there isn't. */
+  | "place"
   /** An earlier line could not be written, so none is any more. */
   | "broken";
 
@@ -64,6 +66,13 @@ export class Recorder {
    * the whole thread waiting, while the monitor doesn't read.
    */
   static toPort(process: string, port: number, options?: { seconds?: number }): Promise<Recorder>;
+
+  /**
+   * Records to where MONITOR_TO in the environment says, so that no code changes between a test and a live session: to
+   * a new file NAME.stream in a folder of this name, which is made if there is none; or to `monitor serve` on a port of
+   * this machine, of :7411 or localhost:7411.
+   */
+  static fromEnvironment(process: string): Promise<Recorder>;
 
   /** The recorder with which this code was called by `within` or `strand`, or undefined. */
   static current(): Recorder | undefined;

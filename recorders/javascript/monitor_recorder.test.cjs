@@ -184,6 +184,31 @@ test("a port on which nobody listens", async () => {
   server.close();
 });
 
+test("a place that the environment names", async () => {
+  const at = async (place, name = "left") => {
+    if (place === undefined) delete process.env.MONITOR_TO;
+    else process.env.MONITOR_TO = place;
+    return Recorder.fromEnvironment(name);
+  };
+  const into = path.join(folder, "new", "folder");
+  for (const name of ["left", "right"]) (await at(into, name)).end();
+  assert.deepEqual(fs.readdirSync(into).sort(), ["left.stream", "right.stream"]);
+  await assert.rejects(at(into), { code: "EEXIST" });
+  const server = net.createServer((connection) => connection.resume()).listen(0, "127.0.0.1");
+  await new Promise((resolve) => server.once("listening", resolve));
+  for (const host of ["", "localhost", "127.0.0.1"]) {
+    const accepted = new Promise((resolve) => server.once("connection", resolve));
+    (await at(`${host}:${server.address().port}`)).end();
+    await accepted;
+  }
+  server.close();
+  for (const place of [undefined, "", ":0", ":65535", "localhost:99999"]) {
+    await assert.rejects(at(place), { reason: "place" });
+  }
+  await assert.rejects(at(into, "and"), { reason: "process-name" });
+  delete process.env.MONITOR_TO;
+});
+
 /** A recorder in a folder of its own, and the texts of the streams there. */
 function openedWithStrands() {
   const at = fs.mkdtempSync(path.join(folder, "strands-"));

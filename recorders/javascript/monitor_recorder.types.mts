@@ -25,6 +25,7 @@ export async function takes(descriptor: number): Promise<Reason | undefined> {
   const all: number = left.within((recorder) => recorder.events);
   left.join(strand, { all });
   (await Recorder.toPort("right", 7411, { seconds: 3 })).end();
+  (await Recorder.fromEnvironment("third")).end();
   new Recorder("other", descriptor).end();
   return undefined;
 }

@@ -47,6 +47,9 @@ LEAST_VALUE, GREATEST_VALUE = -(2**63), 2**63 - 1
 NAME = re.compile(r"[A-Za-z_][A-Za-z0-9_]*")
 RESERVED = frozenset(["and", "or", "not", "true", "false"])
 CONNECT_SECONDS = 10.0
+PLACE = "MONITOR_TO"
+PORT = re.compile(r"(?:localhost|127\.0\.0\.1)?:([0-9]{1,5})")
+PORT_LIMIT = 65_534
 OPEN, CLOSED, BROKEN = "open", "closed", "broken off, since a line could not be written"
 CURRENT = contextvars.ContextVar("monitor_recorder", default=None)
 
@@ -150,6 +153,23 @@ class Recorder:
         these seconds have passed, and then is an OSError. A call waits while the monitor doesn't read."""
         return cls._over(process, variables, lambda: connection_to(port, seconds),
                          lambda _name: connection_to(port, seconds))
+
+    @classmethod
+    def from_environment(cls, process, variables=None):
+        """Records to where MONITOR_TO in the environment says, so that no code changes between a test and a live
+        session: to a new file NAME.stream in a folder of this name, which is made if there is none; or to `monitor
+        serve` on a port of this machine, of :7411 or localhost:7411."""
+        checked_name("process", process)
+        place = os.environ.get(PLACE, "")
+        if place == "":
+            raise NotRecorded(f"{PLACE} isn't set: it names a folder, or a port as :7411")
+        port = PORT.fullmatch(place)
+        if port is None:
+            os.makedirs(place, exist_ok=True)
+            return cls.to_file(process, os.path.join(place, f"{process}.stream"), variables)
+        if not 1 <= int(port[1]) <= PORT_LIMIT:
+            raise NotRecorded(f"{PLACE} is {place}, and a port is a number from 1 to {PORT_LIMIT}")
+        return cls.to_port(process, int(port[1]), variables)
 
     @classmethod
     def _over(cls, process, variables, opened, opened_for):

@@ -13,6 +13,7 @@ import tempfile
 import threading
 import time
 import unittest
+import unittest.mock
 from unittest import mock
 
 import importing
@@ -547,6 +548,36 @@ class Ports(Case):
     def test_nobody_listens(self):
         with self.assertRaises(ConnectionRefusedError):
             Recorder.to_port("left", self.silent()[1], seconds=0.1)
+
+    def at(self, place, name="left"):
+        """A recorder that is made with this in the environment, or with nothing."""
+        with unittest.mock.patch.dict(os.environ, {} if place is None else {"MONITOR_TO": place}):
+            if place is None:
+                os.environ.pop("MONITOR_TO", None)
+            return Recorder.from_environment(name)
+
+    def test_a_folder_of_the_environment(self):
+        folder = os.path.join(os.path.dirname(self.path), "new", "folder")
+        for name in ("left", "right"):
+            self.at(folder, name).close()
+        self.assertEqual(sorted(os.listdir(folder)), ["left.stream", "right.stream"])
+        with self.assertRaises(FileExistsError):
+            self.at(folder)
+
+    def test_a_port_of_the_environment(self):
+        for host in ("", "localhost", "127.0.0.1"):
+            recorder = self.at(f"{host}:{self.port}")
+            connection, _ = self.listener.accept()
+            with connection:
+                recorder.close()
+                self.assertEqual(connection.makefile("rb").read(), b'{"process":"left"}\n{"end":true}\n')
+
+    def test_no_place_in_the_environment(self):
+        for place in (None, "", ":0", ":65535", "localhost:99999"):
+            with self.assertRaisesRegex(NotRecorded, "^MONITOR_TO is"):
+                self.at(place)
+        with self.assertRaises(NotRecorded):
+            self.at(os.path.dirname(self.path), "and")
 
     def test_a_connection_of_ones_own(self):
         ours, theirs = socket.socketpair()

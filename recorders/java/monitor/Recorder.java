@@ -14,6 +14,7 @@ import java.nio.CharBuffer;
 import java.nio.charset.CharacterCodingException;
 import java.nio.charset.StandardCharsets;
 import java.nio.file.FileAlreadyExistsException;
+import java.nio.file.Files;
 import java.nio.file.Path;
 import java.time.Duration;
 import java.util.ArrayList;
@@ -21,6 +22,7 @@ import java.util.HashSet;
 import java.util.List;
 import java.util.Set;
 import java.util.StringJoiner;
+import java.util.regex.Matcher;
 import java.util.regex.Pattern;
 
 /**
@@ -81,6 +83,8 @@ public final class Recorder implements AutoCloseable {
     private static final Set<String> RESERVED = Set.of("and", "or", "not", "true", "false");
     private static final Duration PATIENCE = Duration.ofSeconds(10);
     private static final long PAUSE_MILLISECONDS = 50;
+    private static final Pattern PORT = Pattern.compile("(?:localhost|127\\.0\\.0\\.1)?:([0-9]{1,5})");
+    private static final int PORT_LIMIT = 65_534;
 
     /** Why a call was refused. */
     public enum Reason {
@@ -107,7 +111,9 @@ public final class Recorder implements AutoCloseable {
         /** The recorder was made for an open stream, so there is no place for the stream of a strand. */
         NO_PLACE,
         /** What is to be joined is no strand that has ended. */
-        NOT_ENDED
+        NOT_ENDED,
+        /** MONITOR_TO isn't set, or is a port that there isn't. */
+        PLACE
     }
 
     /** A call was refused and wrote nothing: its message says why. */
@@ -201,6 +207,31 @@ public final class Recorder implements AutoCloseable {
         Recorder recorder = over(process, connectionTo(port, patience).getOutputStream(), null);
         recorder.family.place = name -> connectionTo(port, patience).getOutputStream();
         return recorder;
+    }
+
+    /**
+     * Records to where MONITOR_TO in the environment says, so that no code changes between a test and a live session:
+     * to a new file {@code NAME.stream} in a folder of this name, which is made if there is none; or to {@code monitor
+     * serve} on a port of this machine, of {@code :7411} or {@code localhost:7411}.
+     */
+    public static Recorder fromEnvironment(String process) throws IOException {
+        String place = System.getenv("MONITOR_TO");
+        return toPlace(process, place == null ? "" : place);
+    }
+
+    /** The same, of a place that is given. */
+    public static Recorder toPlace(String process, String place) throws IOException {
+        checkedProcess(process);
+        Matcher matcher = PORT.matcher(place);
+        int port = matcher.matches() ? Integer.parseInt(matcher.group(1)) : 1;
+        if (place.isEmpty() || port < 1 || port > PORT_LIMIT) {
+            throw new NotRecordedException(Reason.PLACE, "MONITOR_TO is \"" + place
+                + "\", and names a folder, or a port from 1 to " + PORT_LIMIT + " as :7411");
+        }
+        if (matcher.matches()) {
+            return toPort(process, port);
+        }
+        return toFile(process, Files.createDirectories(Path.of(place)).resolve(process + ".stream"));
     }
 
     private static Recorder over(String process, OutputStream out, Family family) throws IOException {

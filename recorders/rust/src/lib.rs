@@ -41,7 +41,7 @@
 use std::collections::HashSet;
 use std::env;
 use std::fmt;
-use std::fs::{File, OpenOptions};
+use std::fs::{self, File, OpenOptions};
 use std::io::{self, Write};
 use std::net::{Ipv4Addr, TcpStream};
 use std::path::{Path, PathBuf};
@@ -63,6 +63,7 @@ pub const ID_BYTE_LIMIT: usize = 64;
 
 const RESERVED: [&str; 5] = ["and", "or", "not", "true", "false"];
 const PATIENCE: Duration = Duration::from_secs(10);
+const PORT_LIMIT: u16 = 65_534;
 const PAUSE: Duration = Duration::from_millis(50);
 
 /// A variable and the value that it has from now on. For a truth write `("inside", is_inside.into())`.
@@ -99,6 +100,8 @@ pub enum Error {
     NoPlace,
     /// What is to be joined, of this name, is no strand that has ended.
     NotEnded(String),
+    /// `MONITOR_TO` isn't set, or is this text, which is a port that there isn't.
+    Where(String),
     /// The system could not open or write the recording; a part of the line may have been written.
     Io(io::Error),
 }
@@ -143,6 +146,10 @@ impl Error {
             Error::NotEnded(name) => write!(
                 to,
                 "{name} is no strand that has ended: wait for it, and then join it"
+            ),
+            Error::Where(place) => write!(
+                to,
+                "MONITOR_TO is {place:?}, and names a folder, or a port from 1 to {PORT_LIMIT} as :7411"
             ),
             Error::NoPlace => write!(
                 to,
@@ -195,6 +202,21 @@ struct Family {
     strands: Mutex<Strands>,
 }
 
+/// A number that is no port.
+struct OutOfRange;
+
+/// The port of this machine that a place is, if it is one.
+fn port_in(place: &str) -> Option<Result<u16, OutOfRange>> {
+    let (host, digits) = place.split_once(':')?;
+    let is_port = ["", "localhost", "127.0.0.1"].contains(&host)
+        && (1..=5).contains(&digits.len())
+        && digits.bytes().all(|byte| byte.is_ascii_digit());
+    is_port.then(|| match digits.parse() {
+        Ok(port) if (1..=PORT_LIMIT).contains(&port) => Ok(port),
+        _ => Err(OutOfRange),
+    })
+}
+
 enum Place {
     /// Beside the file of the process.
     Beside(PathBuf),
@@ -242,6 +264,25 @@ impl Recorder {
         check_process(process)?;
         let place = Place::Port(port, patience);
         Recorder::over(process, connection_to(port, patience)?, Some(place))
+    }
+
+    /// Records to where `MONITOR_TO` in the environment says, so that no code changes between a test and a live
+    /// session: to a new file `NAME.stream` in a folder of this name, which is made if there is none; or to `monitor
+    /// serve` on a port of this machine, of `:7411` or `localhost:7411`.
+    pub fn from_environment(process: &str) -> Result<Self, Error> {
+        check_process(process)?;
+        let place = env::var_os("MONITOR_TO").unwrap_or_default();
+        if place.is_empty() {
+            return Err(Error::Where(String::new()));
+        }
+        match place.to_str().and_then(port_in) {
+            Some(Ok(port)) => Recorder::to_port(process, port),
+            Some(Err(OutOfRange)) => Err(Error::Where(place.to_string_lossy().into_owned())),
+            None => {
+                fs::create_dir_all(&place)?;
+                Recorder::to_file(process, Path::new(&place).join(format!("{process}.stream")))
+            }
+        }
     }
 
     /// Records to a file, a connection or whatever else takes bytes; each line is flushed.

@@ -1,7 +1,7 @@
 //! Tests of the recorder that the shared cases can't say.
 use monitor_recorder::{Error, Recorder};
 use std::fs;
-use std::io::{self, BufWriter, ErrorKind, Write};
+use std::io::{self, BufWriter, ErrorKind, Read, Write};
 use std::net::{TcpListener, TcpStream};
 use std::panic::{self, AssertUnwindSafe};
 use std::path::PathBuf;
@@ -209,6 +209,37 @@ fn a_port_on_which_nobody_listens() {
         Recorder::to_port("and", port),
         Err(Error::ProcessName(_))
     ));
+}
+
+#[test]
+fn a_place_that_the_environment_names() {
+    let at = |place: &str, name: &str| {
+        std::env::set_var("MONITOR_TO", place); // no other test reads it
+        Recorder::from_environment(name)
+    };
+    let folder = std::env::temp_dir().join(format!("recorder-{}-to", std::process::id()));
+    let into = folder.join("new");
+    let place = into.to_str().unwrap();
+    at(place, "left").unwrap().end().unwrap();
+    let text = fs::read_to_string(into.join("left.stream")).unwrap();
+    assert_eq!(text, format!("{JOIN}{END}"));
+    let again = at(place, "left");
+    assert!(matches!(again, Err(Error::Io(error)) if error.kind() == ErrorKind::AlreadyExists));
+    fs::remove_dir_all(&folder).unwrap();
+    let listener = TcpListener::bind("127.0.0.1:0").unwrap();
+    let port = listener.local_addr().unwrap().port();
+    for host in ["", "localhost", "127.0.0.1"] {
+        let recorder = at(&format!("{host}:{port}"), "left").unwrap();
+        let (mut accepted, _) = listener.accept().unwrap();
+        recorder.end().unwrap();
+        let mut text = String::new();
+        accepted.read_to_string(&mut text).unwrap();
+        assert_eq!(text, format!("{JOIN}{END}"));
+    }
+    for place in ["", ":0", ":65535", "localhost:99999"] {
+        assert!(matches!(at(place, "left"), Err(Error::Where(_))));
+    }
+    assert!(matches!(at(place, "and"), Err(Error::ProcessName(_))));
 }
 
 #[test]
