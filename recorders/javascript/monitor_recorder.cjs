@@ -48,6 +48,7 @@ const GREATEST_VALUE = 2n ** 63n - 1n;
 const NAME = /^[A-Za-z_][A-Za-z0-9_]*$/;
 const RESERVED = ["and", "or", "not", "true", "false"];
 const PATIENCE_SECONDS = 10;
+const SHOWN = 60; // so many letters of a wrong value are shown
 const [OPEN, ENDED, BROKEN] = ["open", "ended", "broken"];
 const STATES = { ended: "has ended", broken: "is broken off, since a line could not be written" };
 // What both threads of a connection share: whether the last line was answered, how many bytes its error's code has, and
@@ -581,7 +582,7 @@ function checkedName(kind, name) {
 }
 
 function checkedId(id) {
-  if (typeof id !== "string") throw new NotRecorded("id", `the id of a message is a text, and not a ${typeof id}`);
+  if (typeof id !== "string") throw new NotRecorded("id", `the id of a message must be a text, and is a ${typeof id}`);
   const bytes = Buffer.from(id);
   if (bytes.length < 1 || bytes.length > ID_BYTE_LIMIT) {
     throw new NotRecorded("id", `the id of a message has 1 to ${ID_BYTE_LIMIT} bytes, and this one ${bytes.length}`);
@@ -595,7 +596,9 @@ function checkedValue(name, value) {
   const isWhole = typeof value === "bigint" || typeof value === "boolean" || Number.isSafeInteger(value);
   const number = isWhole ? BigInt(value) : undefined;
   if (number === undefined || number < LEAST_VALUE || number > GREATEST_VALUE) {
-    throw new NotRecorded("value", `the value of ${name} is a whole number of 64 bits; above 2**53 it is a BigInt`);
+    const advice = Number.isInteger(value) || isWhole ? "of 64 bits, and a BigInt if it is above 2**53" : "";
+    const shown = typeof value === "string" ? JSON.stringify(value.slice(0, SHOWN)) : String(value).slice(0, SHOWN);
+    throw new NotRecorded("value", `${name} must be a whole number${advice && ` ${advice}`}, and is ${shown}`);
   }
   return String(number);
 }

@@ -47,6 +47,8 @@ LEAST_VALUE, GREATEST_VALUE = -(2**63), 2**63 - 1
 NAME = re.compile(r"[A-Za-z_][A-Za-z0-9_]*")
 RESERVED = frozenset(["and", "or", "not", "true", "false"])
 CONNECT_SECONDS = 10.0
+# So many letters of a wrong value are shown.
+SHOWN = 60
 PLACE = "MONITOR_TO"
 PORT = re.compile(r"(?:localhost|127\.0\.0\.1)?:([0-9]{1,5})")
 PORT_LIMIT = 65_534
@@ -349,7 +351,7 @@ class Recorder:
 
     def _checked_id(self, message):
         if not isinstance(message, str):
-            raise NotRecorded(f"the id of a message is a text, and not of type {type(message).__name__}")
+            raise NotRecorded(f"the id of a message must be a text, and is of type {type(message).__name__}")
         try:
             size = len(message.encode())
         except UnicodeEncodeError:
@@ -611,10 +613,10 @@ def checked_value(name, value):
     try:
         number = int(operator.index(value))
     except TypeError:
-        kind = type(value).__name__
-        raise NotRecorded(f"the value of {name} is a whole number, and not of type {kind}") from None
+        shown, kind = repr(value)[:SHOWN], type(value).__name__
+        raise NotRecorded(f"{name} must be a whole number, and is {shown}, of type {kind}") from None
     if not LEAST_VALUE <= number <= GREATEST_VALUE:
-        raise NotRecorded(f"the value of {name} is a whole number of 64 bits, and this one is too large")
+        raise NotRecorded(f"{name} must be a whole number of 64 bits, from {LEAST_VALUE} to {GREATEST_VALUE}")
     return number
 
 

@@ -7,7 +7,7 @@ from urllib.parse import unquote
 from monitor_recorder import NotRecorded, Recorder, current
 
 # What a refusal's text has, for each word of the cases. The first that is found counts.
-REFUSALS = {"process-name": "no name of a process", "variable-name": "no name of a variable", "value": "the value of",
+REFUSALS = {"process-name": "no name of a process", "variable-name": "no name of a variable", "value": "must be a whole",
             "variables": "16 variables", "events": "10000 events", "id": "the id", "id-twice": "before",
             "ended": "is closed", "broken": "is broken off", "name-twice": "another process of this recording",
             "processes": "16 processes", "not-ended": "no strand that has ended"}

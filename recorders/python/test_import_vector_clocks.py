@@ -187,7 +187,7 @@ class Variables(Case):
         for text, why in (("x=", "''"), ("x=1.5", "'1.5'"), ("x=seven", "'seven'"), ("x=１", "'１'")):
             self.refused(f"1.log line 3: the value of x is {why}, which is no whole number of 64 bits",
                          [log(("a", {"a": 1}, "x=1"), ("a", {"a": 2}, text))], "--variables", "x=(?<x>.*)")
-        self.refused("1.log line 1: the value of x is a whole number of 64 bits, and this one is too large",
+        self.refused("1.log line 1: x must be a whole number of 64 bits, from -9223372036854775808 to 9223372036854775807",
                      [log(("a", {"a": 1}, "x=9223372036854775808"))], "--variables", "x=(?<x>.*)")
 
     def test_two_values_of_one_variable(self):

@@ -91,9 +91,9 @@ class Refused(Case):
     def test_values(self):
         with Recorder.to_file("left", self.path) as recorder:
             for value in (1.0, "1", None, [], GREATEST + 1, LEAST - 1, 10**5000, float("nan")):
-                self.refused("the value of x is a whole number", recorder.event, x=value)
-                self.refused("the value of x is a whole number", recorder.send, x=value)
-                self.refused("the value of x is a whole number", recorder.receive, "m", y=1, x=value)
+                self.refused("^x must be a whole number", recorder.event, x=value)
+                self.refused("^x must be a whole number", recorder.send, x=value)
+                self.refused("^x must be a whole number", recorder.receive, "m", y=1, x=value)
             recorder.receive("m", x=1)
             self.assertEqual(recorder.send(), "left-1")
 
@@ -108,9 +108,9 @@ class Refused(Case):
     def test_ids(self):
         with Recorder.to_file("left", self.path) as recorder:
             for message in (7, b"m", {"money": 1}):
-                self.refused("is a text", recorder.send, message)
-                self.refused("is a text", recorder.receive, message)
-            self.refused("is a text", recorder.receive, None)
+                self.refused("must be a text", recorder.send, message)
+                self.refused("must be a text", recorder.receive, message)
+            self.refused("must be a text", recorder.receive, None)
             self.refused("UTF-8", recorder.send, "\ud800")
 
     def test_a_second_copy(self):
