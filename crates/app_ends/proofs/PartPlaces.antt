@@ -1,11 +1,12 @@
 -- How a bundle is cut into its parts, line by line.
-use Rattle.std.proofs.Common.{◌≡◌, ℕ, suc, ◌+◌, ◌-◌, ◌<◌, ◌≤◌, Bool, true, false, List, [], ◌∷◌, ◌++◌, length, take, drop, map, string_bytes, refl, sym, ◌∙◌, ap, append_assoc, length-append, length-drop, arith}
+use Rattle.std.proofs.Common.{◌≡◌, ℕ, suc, ◌+◌, ◌-◌, ◌<◌, ◌≤◌, true, false, List, [], ◌∷◌, ◌++◌, length, take, drop, map, string_bytes, refl, sym, ◌∙◌, ap, length-append, length-drop, arith}
 use Rattle.std.specs.Prelude.{◌==◌}
 use Rattle.std.proofs.lemmas.List.{append-nil, map-append, drop-drop, drop_at, take_at, take_all, take_rest}
 use Rattle.std.proofs.Math.Seq.{append_snoc, take-add}
 use Rattle.def_format.specs.Bundles.{is_separator, onto_part, parts_of, parts_of_lines, whole_lines}
 use Rattle.def_format.specs.Lines.{has_line_feed}
 use Rattle.def_format.proofs.LineFacts.{or_false}
+use Rattle.def_format.proofs.BundleParts.{onto_none, onto_twice}
 use Rattle.app_ends.specs.Parts.{ArePartsOf, IsLineLength, IsPart, lines_before, part_name, part_names}
 use Rattle.app_ends.specs.declared.seen_parts.Part.{Part}
 
@@ -58,24 +59,6 @@ length_without_feed (x ∷ bytes) some h =
     record { some = some; fits = omega arith; cut = rw (taken, left) (whole_lines-last x bytes h) }
 
 -- ---- the parts so far
-
-onto_nothing : (line : List ℕ) (parts : List (List ℕ)) → onto_part [] (onto_part line parts) ≡ onto_part line parts
-onto_nothing line [] = refl
-onto_nothing line (part ∷ parts) = refl
-
-onto_none : (lines : List (List ℕ)) → onto_part [] (parts_of_lines lines) ≡ parts_of_lines lines
-onto_none [] = refl
-onto_none (line ∷ lines) = go (is_separator line) refl
-  where
-    go : (b : Bool) → is_separator line ≡ b
-        → onto_part [] (parts_of_lines (line ∷ lines)) ≡ parts_of_lines (line ∷ lines)
-    go true e = rw e refl
-    go false e = rw e (onto_nothing line (parts_of_lines lines))
-
-onto_twice : (part line : List ℕ) (parts : List (List ℕ))
-    → onto_part part (onto_part line parts) ≡ onto_part (part ++ line) parts
-onto_twice part line [] = refl
-onto_twice part line (next ∷ parts) = ap (λ first. first ∷ parts) (sym (append_assoc part line next))
 
 -- the bytes between two places
 abbrev pub between : List ℕ → ℕ → ℕ → List ℕ
@@ -151,7 +134,7 @@ line_passed bundle parts start before at end lines cut next plain =
       within = next.fits;
       few = omega (arith, cut.few, next.some);
       bytes = cut.bytes ∙ ap (λ (found : List (List ℕ)). bytes_of parts ++ found)
-          (ap (onto_part begun) parts_are ∙ onto_twice begun line (parts_of others)
+          (ap (onto_part begun) parts_are ∙ sym (onto_twice begun line (parts_of others))
           ∙ ap (λ part. onto_part part (parts_of others)) joined);
       befores = cut.befores ∙ ap (λ (found : List ℕ). befores_of parts ++ before ∷ found)
           (lines_are ∙ ap (λ n. lines_before n (whole_lines others)) (omega arith));

@@ -16,6 +16,7 @@ pub mod OneReport
 pub mod Depths
 pub mod JsonFacts
 pub mod PartFacts
+pub mod BundleParts
 pub mod ReadingSteps
 pub mod TraceFits
 pub mod Faultless

@@ -1,11 +1,12 @@
 -- Parts of bytes that come in pieces.
-use Rattle.std.proofs.Common.{◌≡◌, ℕ, zero, suc, ◌+◌, ◌<◌, ◌≤◌, Bool, true, false, List, [], ◌∷◌, ◌++◌, length, length-drop, get_or, take, drop, refl, sym, ap, ◌∙◌, append_assoc, arith}
+use Rattle.std.proofs.Common.{◌≡◌, ℕ, zero, suc, ◌+◌, ◌<◌, ◌≤◌, Bool, true, false, List, [], ◌∷◌, ◌++◌, length, length-drop, get_or, take, drop, refl, sym, ap, ◌∙◌, arith}
 use Rattle.std.specs.Prelude.{◌==◌}
 use Rattle.std.specs.Bool.{OnFalse}
 use Rattle.std.specs.List.{list_any}
 use Rattle.std.proofs.lemmas.List.{drop-drop, take-append-drop, take_all}
 use Rattle.std.proofs.Math.Seq.{take-add}
 use Rattle.def_format.specs.Bundles.{before_first, is_separator, onto_part, parts_of, parts_of_lines, whole_lines}
+use Rattle.def_format.proofs.BundleParts.{onto_none, onto_nothing, onto_twice}
 use Rattle.read_bundle.specs.Cutting.{EndsLine, IsCut, IsInLine, IsNoSeparator, IsRun, line_marks, parts_from, parts_in_line, parts_of_line}
 use Rattle.read_bundle.specs.declared.cutter.Cutting.TheVariants.{Part}
 use Rattle.read_bundle.specs.declared.cutter.Cutter.{Cutter}
@@ -16,23 +17,6 @@ not_true true h = absurd (h refl)
 not_true false h = refl
 
 -- ---- bytes onto a part
-
-onto_nothing : (line : List ℕ) (parts : List (List ℕ)) → onto_part [] (onto_part line parts) ≡ onto_part line parts
-onto_nothing line [] = refl
-onto_nothing line (part ∷ parts) = refl
-
-pub onto_twice : (part line : List ℕ) (parts : List (List ℕ))
-    → onto_part (part ++ line) parts ≡ onto_part part (onto_part line parts)
-onto_twice part line [] = refl
-onto_twice part line (next ∷ parts) = ap (λ first. first ∷ parts) (append_assoc part line next)
-
--- there is a part that a line may go onto
-pub onto_none : (lines : List (List ℕ)) → onto_part [] (parts_of_lines lines) ≡ parts_of_lines lines
-onto_none [] = refl
-onto_none (line ∷ lines) = go (is_separator line) refl where
-  go : (b : Bool) → is_separator line ≡ b → onto_part [] (parts_of_lines (line ∷ lines)) ≡ parts_of_lines (line ∷ lines)
-  go true e = rw e refl
-  go false e = rw e (onto_nothing line (parts_of_lines lines))
 
 pub onto_none_line : (lines : List (List ℕ)) → onto_part [] (parts_of_line lines) ≡ parts_of_line lines
 onto_none_line [] = refl

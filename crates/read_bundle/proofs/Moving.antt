@@ -16,7 +16,8 @@ use Rattle.read_bundle.specs.declared.cutter.Cutter.{Cutter}
 use Rattle.read_bundle.specs.declared.cutter.Cutter.TheVariants.{Held, Inside}
 use Rattle.read_bundle.specs.declared.next.Next.{Next}
 use Rattle.read_bundle.specs.declared.next.Next.TheVariants.{Bytes, End, PartEnd}
-use Rattle.read_bundle.proofs.Cuts.{onto_none, onto_none_from, onto_twice}
+use Rattle.def_format.proofs.BundleParts.{onto_none, onto_twice}
+use Rattle.read_bundle.proofs.Cuts.{onto_none_from}
 
 -- ---- reads
 
