@@ -38,12 +38,12 @@ int getentropy(void *to, size_t size) {
 #define ROUND (a += b, c += d, b = TURN(b, 13) ^ a, d = TURN(d, 16) ^ c, a = TURN(a, 32), \
                c += b, a += d, b = TURN(b, 17) ^ c, d = TURN(d, 21) ^ a, c = TURN(c, 32))
 
-/* SipHash-1-3 of the length of an id of 8 bytes and the id, as the map folds it. */
+/* SipHash-1-3 of an id of 8 bytes, as the map folds it. */
 static uint32_t hash_of(const uint64_t *keys, uint64_t id) {
     uint64_t a = keys[0] ^ 0x736f6d6570736575, b = keys[1] ^ 0x646f72616e646f6d;
     uint64_t c = keys[0] ^ 0x6c7967656e657261, d = keys[1] ^ 0x7465646279746573;
-    const uint64_t words[3] = {8, id, (uint64_t)16 << 56};
-    for (int i = 0; i < 3; i++) { d ^= words[i]; ROUND; a ^= words[i]; }
+    const uint64_t words[2] = {id, (uint64_t)8 << 56};
+    for (int i = 0; i < 2; i++) { d ^= words[i]; ROUND; a ^= words[i]; }
     c ^= 0xff; ROUND; ROUND; ROUND;
     uint64_t hash = a ^ b ^ c ^ d;
     return (uint32_t)(hash ^ hash >> 32);

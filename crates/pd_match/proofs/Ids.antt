@@ -5,10 +5,11 @@ use Rattle.std.specs.Map.{lookup, update}
 use Rattle.std.proofs.lemmas.Slice.Eq.{bytes_eq-Decides}
 use Rattle.std.proofs.lemmas.Option.{same_Some}
 use Rattle.std.proofs.lemmas.Bool.{false≢true}
-use Rattle.indexmap.specs.IndexMap.{IndexMap, IsEmpty, get_by}
+use Rattle.indexmap.specs.IndexMap.{IndexMap, IsEmpty, Updates, get_by}
 use Rattle.def_model.specs.Events.{Kind, Computation, IsBefore, kind_at, event_count}
 use Rattle.def_model.specs.Events as events
 use Rattle.def_model.proofs.Chains.{event_from_kind}
+use Rattle.pd_match.specs.declared.id.Id.{Id}
 use Rattle.pd_match.specs.declared.place.Place.{Place}
 use Rattle.pd_match.specs.Views.{place_view}
 use Rattle.pd_match.specs.Noted.{event_place, place_noted, HasBefore, HasAll}
@@ -20,19 +21,19 @@ map_cond f true x y = refl
 map_cond f false x y = refl
 
 -- an update, as the model sees it
-pub noted_update : {S : Type 0} (old new : IndexMap (Bor (List ℕ)) Place S) (id other : List ℕ) (here : Place)
-    → get_by (λ k. bytes_eq other k.now) new
-    ≡ update bytes_eq (λ ds. get_by (λ k. bytes_eq ds k.now) old) id (Some here) other
-    → place_noted new other ≡ update bytes_eq (place_noted old) id (Some (place_view here)) other
+pub noted_update : {S : Type 0} (old new : IndexMap Id Place S) (id : Bor (List ℕ)) (other : List ℕ) (here : Place)
+    → Updates (λ x y. bytes_eq x.0.now y.0.now) old new (record { 0 = id }) (Some here)
+    → place_noted new other ≡ update bytes_eq (place_noted old) id.now (Some (place_view here)) other
 noted_update old new id other here h =
-    ap (option_map place_view) h ∙ map_cond place_view (bytes_eq id other) (Some here)
-    (get_by (λ k. bytes_eq other k.now) old)
+    ap (option_map place_view) (h.0 (record { 0 = record { ref_ptr = id.ref_ptr; now = other } }))
+    ∙ map_cond place_view (bytes_eq id.now other) (Some here)
+    (get_by (λ k. bytes_eq other k.0.now) old)
 
 -- an empty map notes nothing
-pub none_noted : {S : Type 0} (places : IndexMap (Bor (List ℕ)) Place S) → IsEmpty places → (id : List ℕ)
+pub none_noted : {S : Type 0} (places : IndexMap Id Place S) → IsEmpty places → (id : List ℕ)
     → place_noted places id ≡ None
 none_noted places empty id =
-    ap (λ es. option_map place_view (lookup (λ (k : Bor (List ℕ)). bytes_eq id k.now) es)) empty
+    ap (λ es. option_map place_view (lookup (λ (k : Id). bytes_eq id k.0.now) es)) empty
 
 module _ (sort : List ℕ → Kind) (c : Computation) where
   pub noted_first : (noted : List ℕ → Option events.Place) → ((id : List ℕ) → noted id ≡ None)

@@ -1,7 +1,6 @@
 -- What the marks of received ids say, step by step.
 use Rattle.std.proofs.Common.{◌≡◌, ◌≢◌, ℕ, zero, suc, ◌<◌, ◌≤◌, ◌+◌, cond, List, [], ◌∷◌, length, get_or, replicate, set, Bool, true, false, Option, Some, None, refl, sym, ◌∙◌, ap, subst, inl, inr, ◌⊎◌, bytes_eq, arith}
 use Rattle.std.specs.Prelude.{nat_eq, not, position}
-use Rattle.std.specs.Borrow.{Bor}
 use Rattle.std.specs.Map.{keys_of}
 use Rattle.std.proofs.Math.Dec.{eqb-suc-zero}
 use Rattle.std.proofs.lemmas.Bool.{cases_eq, cases_lt, false≢true}
@@ -15,6 +14,7 @@ use Rattle.indexmap.specs.IndexMap.{IndexMap, index_of_by}
 use Rattle.def_model.specs.Events.{Receive, Computation, IsBefore, kind_at, event_count}
 use Rattle.def_model.specs.Events as events
 use Rattle.def_model.proofs.Chains.{event_from_kind}
+use Rattle.pd_match.specs.declared.id.Id.{Id}
 use Rattle.pd_match.specs.declared.place.Place.{Place}
 use Rattle.pd_match.specs.Noted.{HasReceived, IsReceivedBefore, event_place, last_receiver, mark_at, sends_marked}
 use Rattle.pd_match.proofs.Places.{before_more, before_next, before_next_process, before_process_end, here_before_next, none_before_first}
@@ -38,9 +38,9 @@ none_set n (Some i) = go (cases_lt i n)
         let same : length (replicate {A = ℕ} n 0) ≡ n = length-replicate n 0 in
         get_or_past (replicate {A = ℕ} n 0) i 0 (omega (arith, same))
 
-module _ {S : Type 0} (places : IndexMap (Bor (List ℕ)) Place S) where
+module _ {S : Type 0} (places : IndexMap Id Place S) where
   abbrev index_of_id : List ℕ → Option ℕ
-  index_of_id id = index_of_by (λ k. bytes_eq id k.now) places
+  index_of_id id = index_of_by (λ k. bytes_eq id k.0.now) places
 
   -- no id is marked at first
   pub none_marked : (n : ℕ) (id : List ℕ) → last_receiver places (replicate n 0) id ≡ 0
@@ -49,9 +49,9 @@ module _ {S : Type 0} (places : IndexMap (Bor (List ℕ)) Place S) where
   -- an index is that of one id
   one_id : (id other : List ℕ) (i : ℕ) → index_of_id id ≡ Some i → index_of_id other ≡ Some i → id ≡ other
   one_id id other i e f =
-      let both = both_pass (λ (k : Bor (List ℕ)). bytes_eq id k.now) (λ k. bytes_eq other k.now)
+      let both = both_pass (λ (k : Id). bytes_eq id k.0.now) (λ k. bytes_eq other k.0.now)
       (keys_of places.entries) i e f in
-      (bytes_eq-Decides id both.0.now).0 both.1 ∙ sym ((bytes_eq-Decides other both.0.now).0 both.2)
+      (bytes_eq-Decides id both.0.0.now).0 both.1 ∙ sym ((bytes_eq-Decides other both.0.0.now).0 both.2)
 
   -- the mark of one id is set
   pub mark_more : (marks : List ℕ) (id other : List ℕ) (i mark : ℕ) → index_of_id id ≡ Some i → i < length marks

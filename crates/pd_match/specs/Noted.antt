@@ -1,13 +1,13 @@
 -- What the maps of ids, the pairs and the table of senders stand for.
 use Rattle.std.specs.Prelude.{◌≡◌, ◌≢◌, ◌↔◌, ◌≤◌, ℕ, suc, Bool, true, not, List, [], ◌∷◌, Contains, length, Option, Some, None, option_map, slice_get, slice_index_or, bytes_eq, nat_eq, cond, ◌++◌, Vec}
 use Rattle.std.specs.List.{count_by}
-use Rattle.std.specs.Borrow.{Bor}
 use Rattle.std.specs.declared.alloc.Global.{Global}
 use Rattle.indexmap.specs.IndexMap.{IndexMap, get_by, index_of_by}
 use Rattle.def_model.specs.Events.{Kind, Receive, Computation, IsBefore, Linked, kind_at, numbered, place}
 use Rattle.def_model.specs.Events as events
 use Rattle.def_model.specs.Messages.{Version, One, Two, IsBadReceipt}
 use Rattle.def_model.specs.Messages as messages
+use Rattle.pd_match.specs.declared.id.Id.{Id}
 use Rattle.pd_match.specs.declared.place.Place.{Place}
 use Rattle.pd_match.specs.declared.sender.Sender.{Sender}
 use Rattle.pd_match.specs.Views.{place_view}
@@ -17,8 +17,8 @@ abbrev pub event_place : ℕ → ℕ → events.Place
 event_place p n = place p (suc n)
 
 -- the place that a map has for an id
-abbrev pub place_noted : {S : Type 0} → IndexMap (Bor (List ℕ)) Place S → List ℕ → Option events.Place
-place_noted places id = option_map place_view (get_by (λ k. bytes_eq id k.now) places)
+abbrev pub place_noted : {S : Type 0} → IndexMap Id Place S → List ℕ → Option events.Place
+place_noted places id = option_map place_view (get_by (λ k. bytes_eq id k.0.now) places)
 
 -- the mark with this index
 abbrev pub mark_at : List ℕ → Option ℕ → ℕ
@@ -27,8 +27,8 @@ mark_at marks (Some index) = slice_index_or marks index 0
 
 -- The mark of an id, which has the index that the id has in the map: 0 if the id isn't received, and else 1 and the
 -- last process that received it.
-abbrev pub last_receiver : {S : Type 0} → IndexMap (Bor (List ℕ)) Place S → List ℕ → List ℕ → ℕ
-last_receiver places marks id = mark_at marks (index_of_by (λ k. bytes_eq id k.now) places)
+abbrev pub last_receiver : {S : Type 0} → IndexMap Id Place S → List ℕ → List ℕ → ℕ
+last_receiver places marks id = mark_at marks (index_of_by (λ k. bytes_eq id k.0.now) places)
 
 -- whether a receipt by this process is one too many, where the last receiver is marked so
 abbrev pub again : Version → ℕ → ℕ → Bool

@@ -10,6 +10,7 @@
 //!
 //! - `place`: where an event stands
 //! - `fault`: why the events can't be matched
+//! - `id`: ids of messages, as the keys of a map
 //! - `sender`: the send of an event, as the table of senders keeps it
 //! - `matched`: the messages
 //! - `kinds`: the kinds of events, by process and index
@@ -20,6 +21,7 @@
 #![tactic(auto)]
 
 mod fault;
+mod id;
 mod kinds;
 mod matched;
 mod matching;

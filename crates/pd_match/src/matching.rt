@@ -7,6 +7,7 @@ ghost use Rattle.def_model.specs.Events.{Send};
 ghost use Rattle.def_model.specs.Messages.{HasLawfulMessages, IsMessageList, IsReported};
 ghost use Rattle.std.specs.Prelude.{◌≡◌, IfErr, IfOk, IfSome};
 
+use super::id::Id;
 use super::receiving::senders_in;
 use super::sending::sends_of;
 use super::{MatchFault, Matched, Place};
@@ -35,7 +36,7 @@ fn match_receipts<'a, S: BuildHasher>(
     alloc: Global,
     version: Version,
     traces: &'a [Trace],
-    sends: &IndexMap<&'a [u8], Place, S>,
+    sends: &IndexMap<Id<'a>, Place, S>,
 ) -> Result<Matched, MatchFault>
     requires { HasAll Send (computation_view traces.now) (place_noted sends.now) }
     ensures lawful { IfOk result (λ matched. HasLawfulMessages (version_view version) (computation_view traces.now)) }

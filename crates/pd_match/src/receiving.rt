@@ -10,6 +10,7 @@ ghost use Rattle.def_model.specs.Events.{Send, event_count};
 ghost use Rattle.def_model.specs.Messages.{IsMessage, IsReported};
 ghost use Rattle.std.specs.Prelude.{◌≡◌, ◌≢◌, ◌+◌, ◌-◌, ◌^◌, ◌<◌, ◌↔◌, ℕ, IfErr, IfOk, IfSome, List, OnOk, Some, bytes_eq, cond, false, length, nat_eq, option_map, suc};
 
+use super::id::Id;
 use super::kinds::kind_of;
 use super::sender::Sender;
 use super::{MatchFault, Place};
@@ -35,7 +36,7 @@ fn is_again(version: Version, last: u32, process: u32) -> bool
 /// this receiver.
 fn match_receipt<'a, S: BuildHasher>(
     version: Version,
-    sends: &IndexMap<&'a [u8], Place, S>,
+    sends: &IndexMap<Id<'a>, Place, S>,
     received: &mut Vec<u32>,
     id: &'a [u8],
     here: Place,
@@ -54,7 +55,7 @@ fn match_receipt<'a, S: BuildHasher>(
         (again (version_view version) (last_receiver sends.now received.old.items id.now) here.process)
         (place_view here) (match_fault_view reported)) }
 {
-    match sends.get_index_of(id) {
+    match sends.get_index_of(&Id(id)) {
         None => Err(MatchFault::Orphan(here)),
         Some(index) => {
             let send = sends[index];
@@ -80,7 +81,7 @@ fn sender_of<'a, S: BuildHasher>(
     traces: &'a [Trace],
     p: usize,
     n: usize,
-    sends: &IndexMap<&'a [u8], Place, S>,
+    sends: &IndexMap<Id<'a>, Place, S>,
     received: &mut Vec<u32>,
 ) -> Result<Option<Place>, MatchFault>
     requires process { p < length traces.now }
@@ -118,7 +119,7 @@ pub(crate) fn senders_in<'a, S: BuildHasher>(
     version: Version,
     traces: &'a [Trace],
     p: usize,
-    sends: &IndexMap<&'a [u8], Place, S>,
+    sends: &IndexMap<Id<'a>, Place, S>,
     received: &mut Vec<u32>,
 ) -> Result<Vec<Sender>, MatchFault>
     requires process { p < length traces.now }

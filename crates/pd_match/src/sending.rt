@@ -6,6 +6,7 @@ ghost use Rattle.def_model.specs.Events.{Send, event_count};
 ghost use Rattle.def_model.specs.Messages.{IsReported, Version};
 ghost use Rattle.std.specs.Prelude.{◌<◌, IfErr, IfOk, IfSome, OnOk, length, suc};
 
+use super::id::Id;
 use super::kinds::kind_of;
 use super::noting::note;
 use super::{MatchFault, Place};
@@ -19,7 +20,7 @@ fn note_send<'a, S: BuildHasher>(
     traces: &'a [Trace],
     p: usize,
     n: usize,
-    sends: &mut IndexMap<&'a [u8], Place, S>,
+    sends: &mut IndexMap<Id<'a>, Place, S>,
 ) -> Result<(), MatchFault>
     requires process { p < length traces.now }
     requires event { n < event_count (computation_view traces.now) p }
@@ -42,7 +43,7 @@ fn note_send<'a, S: BuildHasher>(
 fn note_sends<'a, S: BuildHasher>(
     traces: &'a [Trace],
     p: usize,
-    sends: &mut IndexMap<&'a [u8], Place, S>,
+    sends: &mut IndexMap<Id<'a>, Place, S>,
 ) -> Result<(), MatchFault>
     requires process { p < length traces.now }
     requires before { HasBefore Send (computation_view traces.now) (event_place p 0) (place_noted sends.old) }
@@ -65,7 +66,7 @@ pub(crate) fn sends_of<'a, S: BuildHasher + Drop>(
     alloc: Global,
     traces: &'a [Trace],
     hasher: S,
-) -> Result<IndexMap<&'a [u8], Place, S>, MatchFault>
+) -> Result<IndexMap<Id<'a>, Place, S>, MatchFault>
     ensures noted { IfOk result (λ sends. HasAll Send (computation_view traces.now) (place_noted sends)) }
     ensures fault { IfErr result (λ reported.
         (version : Version) → IfSome (match_fault_view reported) (IsReported version (computation_view traces.now))) }

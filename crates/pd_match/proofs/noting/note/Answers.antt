@@ -1,9 +1,7 @@
 -- Notes the place where an id stands.
-use Rattle.std.proofs.lemmas.Map.Text.{hash_map_updates_str}
 use Rattle.pd_match.proofs.Ids.{noted_update}
 use Rattle.pd_match.proofs.noting.note.Goals as goal
 
 pub returns-clause-noted : goal.returns-clause-noted
 returns-clause-noted g c = λ other.
-    noted_update c.args.places.now c.insert.new.self c.args.id.now other c.args.here
-    (hash_map_updates_str c.args.id.now c.args.places.now c.insert.new.self _ c.in_ok-insert.ensures.updates other)
+    noted_update c.args.places.now c.insert.new.self c.args.id other c.args.here c.in_ok-insert.ensures.updates

@@ -1,5 +1,5 @@
 -- The send of the receipt of this id, which stands here.
-use Rattle.std.proofs.Common.{◌≡◌, ◌∙◌, ◌<◌, List, ℕ, Option, Some, ap, arith, false, true, get_or, length, option_map, refl, set, subst, suc, sym, add-one, cond, bytes_eq, ◌+◌}
+use Rattle.std.proofs.Common.{◌≡◌, ◌∙◌, ◌<◌, List, ℕ, Option, Some, ap, arith, get_or, length, option_map, refl, set, subst, suc, sym, add-one, cond, bytes_eq, ◌+◌}
 use Rattle.std.specs.Prelude.{nat_eq}
 use Rattle.std.proofs.lemmas.List.{get_or_read}
 use Rattle.def_format.specs.Versions.{version_view}
