@@ -14,7 +14,7 @@ import tempfile
 
 import instructions
 
-KEYS, OTHERS = (0x0706050403020100, 0x0F0E0D0C0B0A0908), (1, 2)
+KEYS, OTHERS = (0x0706050403020100, 0x0F0E0D0C0B0A0908), (0x9E3779B97F4A7C15, 0xC2B2AE3D27D4EB4F)
 IDS, ID_BYTES = 300, 8
 RATIO = 1.2  # how many times the instructions the ids that collide take at least
 DOCUMENT = ('{"processes":[{"name":"a","vars":{"x":0}},{"name":"b","vars":{}}],'
@@ -34,19 +34,10 @@ int getentropy(void *to, size_t size) {
     return 0;
 }
 
-#define TURN(x, n) ((x) << (n) | (x) >> (64 - (n)))
-#define ROUND (a += b, c += d, b = TURN(b, 13) ^ a, d = TURN(d, 16) ^ c, a = TURN(a, 32), \
-               c += b, a += d, b = TURN(b, 17) ^ c, d = TURN(d, 21) ^ a, c = TURN(c, 32))
-
-/* SipHash-1-3 of an id of 8 bytes, as the map folds it. */
+/* The hash of an id of 8 bytes, of two words of 32 bits: the upper half of a sum of products, modulo 2^64. Its
+   keys are the two in turn: the first for the first word and the start, the second for the other word and the length. */
 static uint32_t hash_of(const uint64_t *keys, uint64_t id) {
-    uint64_t a = keys[0] ^ 0x736f6d6570736575, b = keys[1] ^ 0x646f72616e646f6d;
-    uint64_t c = keys[0] ^ 0x6c7967656e657261, d = keys[1] ^ 0x7465646279746573;
-    const uint64_t words[2] = {id, (uint64_t)8 << 56};
-    for (int i = 0; i < 2; i++) { d ^= words[i]; ROUND; a ^= words[i]; }
-    c ^= 0xff; ROUND; ROUND; ROUND;
-    uint64_t hash = a ^ b ^ c ^ d;
-    return (uint32_t)(hash ^ hash >> 32);
+    return (keys[0] + 8 * keys[1] + (id & 0xffffffff) * keys[0] + (id >> 32) * keys[1]) >> 32;
 }
 
 /* Puts the first ids whose hashes agree in their lowest 8 bits, by which a group is found, and in their highest 8,

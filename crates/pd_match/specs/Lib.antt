@@ -1,3 +1,4 @@
 pub mod Views
 pub mod Noted
 pub mod Progress
+pub mod IdHash

@@ -10,6 +10,7 @@
 //!
 //! - `place`: where an event stands
 //! - `fault`: why the events can't be matched
+//! - `hashing`: a keyed hash of ids
 //! - `id`: ids of messages, as the keys of a map
 //! - `sender`: the send of an event, as the table of senders keeps it
 //! - `matched`: the messages
@@ -21,6 +22,7 @@
 #![tactic(auto)]
 
 mod fault;
+mod hashing;
 mod id;
 mod kinds;
 mod matched;

@@ -7,6 +7,7 @@ ghost use Rattle.def_model.specs.Events.{Send};
 ghost use Rattle.def_model.specs.Messages.{HasLawfulMessages, IsMessageList, IsReported};
 ghost use Rattle.std.specs.Prelude.{◌≡◌, IfErr, IfOk, IfSome};
 
+use super::hashing::{IdKeys, random_keys};
 use super::id::Id;
 use super::receiving::senders_in;
 use super::sending::sends_of;
@@ -15,7 +16,7 @@ use def_format::Version;
 use indexmap::IndexMap;
 use read_traces::Trace;
 use std::alloc::Global;
-use std::hash::{BuildHasher, BuildHasherDefault, FoldHasher, RandomState};
+use std::hash::{BuildHasher, BuildHasherDefault, FoldHasher};
 use std::random::RandomSource;
 
 /// How many sends have a receiver.
@@ -86,8 +87,8 @@ pub fn match_messages<R: RandomSource>(
     ensures fault { IfErr result (λ reported.
         IfSome (match_fault_view reported) (IsReported (version_view version) (computation_view traces.now))) }
 {
-    match RandomState::new(rt) {
-        Ok(keys) => match_by(alloc, version, traces, keys),
+    match random_keys(rt) {
+        Ok(keys) => match_by(alloc, version, traces, IdKeys(&keys)),
         Err(_) => {
             let fixed: BuildHasherDefault<FoldHasher> = BuildHasherDefault::new();
             match_by(alloc, version, traces, fixed)
