@@ -18,6 +18,7 @@ pub mod FirstHits
 pub mod MarkPlaces
 pub mod PointFacts
 pub mod NeedRows
+pub mod Receivers
 pub mod RunSteps
 pub mod Growing
 pub mod CutKeys

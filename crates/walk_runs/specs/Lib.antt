@@ -4,6 +4,7 @@ pub mod Births
 pub mod WholeLevels
 pub mod Laws
 pub mod Needs
+pub mod Receivers
 pub mod Kept
 pub mod Points
 pub mod KeptRuns

@@ -4,7 +4,7 @@ ghost use Rattle.walk_keys.specs.Keys.{count_base};
 ghost use Rattle.def_model.specs.Cuts.{IsConsistent, one_more};
 ghost use Rattle.walk_runs.specs.Births.{IsMadeLater, IsUndoable};
 ghost use Rattle.walk_runs.specs.Points.{GrowsBy, GrowsIf, IsWanted, point_cut};
-ghost use Rattle.std.specs.Prelude.{◌-◌, ◌^◌, ◌<◌, ◌≤◌, ◌⊎◌, ℕ, IfOk, IfSome, IsTrue, length};
+ghost use Rattle.std.specs.Prelude.{◌≡◌, ◌-◌, ◌^◌, ◌<◌, ◌≤◌, ◌⊎◌, ℕ, IfNone, IfOk, IfSome, IsTrue, false, length};
 
 use super::Steps;
 use super::births::Births;
@@ -12,62 +12,80 @@ use super::kept_birth::KeptBirth;
 use super::point::{Point, can_add, count, follows, key_of_cut};
 use std::alloc::AllocError;
 use walk_keys::Key;
-use walk_keys::bits::{BITS, has, lowest};
+use walk_keys::bits::{both, down, either, least, lowest, without, words};
 
-/// Whether the next event of process `p` can be added to the cut, and receives what the last event of process `by` in
-/// it sends, if there is a `by`. Those that aren't sought aren't looked at.
-fn adds<K: Key>(
-    steps: &Steps<'_, '_>,
-    point: &Point<K>,
-    by: Option<usize>,
-    sought: u64,
-    p: usize,
-) -> bool
-    requires few { length steps.now ≤ K.room }
-    requires within { p < length steps.now }
-    requires below { point.now.key < count_base ^ (length steps.now - 2) }
-    requires cut { IsConsistent steps.now (point_cut (length steps.now - 2) point.now) }
-    requires sender { IfSome by (λ q. q < length steps.now) }
-    requires sought { IsWanted steps.now (point_cut (length steps.now - 2) point.now) by p → IsTrue (has_bit sought p) }
-    ensures added { IsTrue result → IsConsistent steps.now (one_more (point_cut (length steps.now - 2) point.now) p) }
-    ensures all { IsWanted steps.now (point_cut (length steps.now - 2) point.now) by p → IsTrue result }
+/// The number of the first bit from `from` on that is set in the word, if there is one.
+fn next_bit(word: u64, from: usize) -> Option<usize>
+    requires { from < 64 }
+    ensures some { IfSome result (λ p. (from ≤ p) × IsTrue (has_bit word p)
+        × ((j : ℕ) → from ≤ j → j < p → has_bit word j ≡ false)) }
+    ensures none { IfNone result ((j : ℕ) → from ≤ j → has_bit word j ≡ false) }
 {
-    steps.limits();
-    if !has(sought, p as u64) {
-        return false;
+    let rest = down(word, from as u64);
+    words(rest);
+    if rest == 0 {
+        return None;
     }
-    match by {
-        Some(q) => follows(steps, point, p, q),
-        None => can_add(steps, point, p),
-    }
+    Some(from + least(rest) as usize)
 }
 
-/// The processes whose next event may be one that `adds` finds, a bit for each.
-fn sought_of<K: Key>(steps: &Steps<'_, '_>, point: &Point<K>, by: Option<usize>) -> u64
+/// The processes of the prefix whose next event may be wanted, a bit for each: if there is a `by`, those that receive
+/// what its last event in the cut sends.
+fn sought_by<K: Key>(steps: &Steps<'_, '_>, point: &Point<K>, by: Option<usize>) -> u64
     requires few { length steps.now ≤ K.room }
     requires below { point.now.key < count_base ^ (length steps.now - 2) }
     requires cut { IsConsistent steps.now (point_cut (length steps.now - 2) point.now) }
     requires sender { IfSome by (λ q. q < length steps.now) }
-    ensures { (p : ℕ) → p < length steps.now - 2
+    ensures all { (p : ℕ) → p < length steps.now - 2
         → IsWanted steps.now (point_cut (length steps.now - 2) point.now) by p → IsTrue (has_bit result p) }
+    ensures within { (p : ℕ) → IsTrue (has_bit result p) → p < length steps.now - 2 }
 {
     steps.limits();
     match by {
         Some(q) => steps.receivers(q, count(point, steps.prefix(), q)),
-        None => lowest(BITS),
+        None => lowest(steps.prefix() as u64),
     }
 }
 
-/// The same, but that cuts are left out which process `latest` makes too: its last event in the cut can be undone, and
-/// still can be once a lesser process has gone on by an event that doesn't receive what it sends. The greatest process
-/// that makes a cut never leaves it out, and few cuts are found more than once, as in the reverse search of Avis and
-/// Fukuda (*Reverse Search for Enumeration*, 1996). Where `latest` is 0, none is left out.
+/// The same, but that of the processes before `latest` only those are kept that receive what its last event in the cut
+/// sends. That event can be undone, and still can be once a lesser process has gone on by an event that doesn't receive
+/// what it sends: then `latest` makes that cut too. The greatest process that makes a cut never leaves it out, and few
+/// cuts are found more than once, as in the reverse search of Avis and Fukuda (*Reverse Search for Enumeration*, 1996).
+/// If `latest` is 0, none is left out.
+fn sought_of<K: Key>(
+    steps: &Steps<'_, '_>,
+    point: &Point<K>,
+    by: Option<usize>,
+    latest: usize,
+) -> u64
+    requires few { length steps.now ≤ K.room }
+    requires below { point.now.key < count_base ^ (length steps.now - 2) }
+    requires cut { IsConsistent steps.now (point_cut (length steps.now - 2) point.now) }
+    requires sender { IfSome by (λ q. q < length steps.now) }
+    requires latest { 0 < latest → IsUndoable steps.now (point_cut (length steps.now - 2) point.now) latest }
+    ensures all { (p : ℕ) → p < length steps.now - 2
+        → IsWanted steps.now (point_cut (length steps.now - 2) point.now) by p → IsTrue (has_bit result p)
+        ⊎ IsMadeLater steps.now (one_more (point_cut (length steps.now - 2) point.now) p) p }
+    ensures within { (p : ℕ) → IsTrue (has_bit result p) → p < length steps.now - 2 }
+{
+    steps.limits();
+    let all = sought_by(steps, point, by);
+    if latest == 0 {
+        return all;
+    }
+    let lesser = lowest(latest as u64);
+    let followers = steps.receivers(latest, count(point, steps.prefix(), latest));
+    either(without(all, lesser), both(followers, lesser))
+}
+
+/// Whether the next event of process `p` can be added to the cut, and receives what the last event of process `by` in
+/// it sends, if there is a `by`, or what that of process `latest` sends, if `p` is before that. Of the processes before
+/// `latest` no other makes a cut that `latest` doesn't make too.
 fn makes<K: Key>(
     steps: &Steps<'_, '_>,
     point: &Point<K>,
     by: Option<usize>,
     latest: usize,
-    sought: u64,
     p: usize,
 ) -> bool
     requires few { length steps.now ≤ K.room }
@@ -76,7 +94,6 @@ fn makes<K: Key>(
     requires cut { IsConsistent steps.now (point_cut (length steps.now - 2) point.now) }
     requires sender { IfSome by (λ q. q < length steps.now) }
     requires latest { 0 < latest → IsUndoable steps.now (point_cut (length steps.now - 2) point.now) latest }
-    requires sought { IsWanted steps.now (point_cut (length steps.now - 2) point.now) by p → IsTrue (has_bit sought p) }
     ensures added { IsTrue result → IsConsistent steps.now (one_more (point_cut (length steps.now - 2) point.now) p) }
     ensures all { IsWanted steps.now (point_cut (length steps.now - 2) point.now) by p → IsTrue result
         ⊎ IsMadeLater steps.now (one_more (point_cut (length steps.now - 2) point.now) p) p }
@@ -85,11 +102,15 @@ fn makes<K: Key>(
     if p < latest {
         return follows(steps, point, p, latest);
     }
-    adds(steps, point, by, sought, p)
+    match by {
+        Some(q) => follows(steps, point, p, q),
+        None => can_add(steps, point, p),
+    }
 }
 
 /// Adds the cuts that one more event of a process of the prefix makes of this one: all of them, or those whose event
-/// receives what the last event of process `by` sends. Those are left out that process `latest` makes too.
+/// receives what the last event of process `by` sends. Those are left out that process `latest` makes too. Only the
+/// processes that are sought are looked at.
 pub(crate) fn add_births<K: Key>(
     steps: &Steps<'_, '_>,
     point: &Point<K>,
@@ -108,14 +129,16 @@ pub(crate) fn add_births<K: Key>(
     steps.limits();
     let prefix = steps.prefix();
     let cut = key_of_cut(point, prefix);
-    let sought = sought_of(steps, point, by);
-    for p in 0..prefix {
-        if makes(steps, point, by, latest, sought, p) {
+    let sought = sought_of(steps, point, by, latest);
+    let mut from = 0;
+    'births: while let Some(p) = next_bit(sought, from) {
+        if makes(steps, point, by, latest, p) {
             born.push(KeptBirth {
                 cut: cut.one_more(prefix + 2, p),
                 by: p,
             })?;
         }
+        from = p + 1;
     }
     Ok(())
 }

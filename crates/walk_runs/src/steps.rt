@@ -3,25 +3,24 @@ ghost use Rattle.walk_keys.specs.Words.{has_bit};
 ghost use Rattle.def_format.specs.Limits.{event_limit, process_limit};
 ghost use Rattle.def_model.specs.Events.{event_count, place};
 ghost use Rattle.walk_runs.specs.Births.{IsReceivedBelow, IsWalkable};
-ghost use Rattle.def_model.specs.Messages.{IsMessage};
-ghost use Rattle.walk_runs.specs.Needs.{AreNeeds, HasNeeds, HasReceivers, IsNeed};
+ghost use Rattle.walk_runs.specs.Needs.{AreNeeds, AreReceivers, HasNeeds, HaveReceivers, IsNeed, table_view};
+ghost use Rattle.walk_runs.specs.Receivers.{HasAdded, IsBitOf, IsBitOfRow, IsSet};
 ghost use Rattle.walk_runs.specs.declared.need.Need.{Need};
-ghost use Rattle.std.specs.Prelude.{◌≡◌, ◌+◌, ◌-◌, ◌<◌, ◌≤◌, ℕ, IfOk, IsTrue, Some, length, slice_get, slice_index_or};
+ghost use Rattle.std.specs.Prelude.{◌≡◌, ◌≢◌, ◌↔◌, ◌+◌, ◌-◌, ◌<◌, ◌≤◌, ℕ, IfOk, IsTrue, length, true};
 
 use super::need::{Need, need_after};
 use pd_clock::Computation;
 use std::alloc::{AllocError, Global};
 use std::marker::Model;
-use walk_keys::bits::{BITS, lowest, with, words};
+use walk_keys::bits::words;
 
 /// What the walk over whole levels looks up in a computation of two processes or more: the need of each event, and
-/// which processes of the prefix receive an event of the last two processes, a bit for each.
+/// which processes of the prefix receive it, a bit for each.
 #[derive(Drop)]
 pub struct Steps<'a, 'b> {
     computation: &'a Computation<'b>,
     needs: Vec<Vec<Need>>,
-    receivers_x: Vec<u64>,
-    receivers_y: Vec<u64>,
+    receivers: Vec<Vec<u16>>,
 }
 
 impl<'a, 'b> Model for Steps<'a, 'b> {
@@ -32,8 +31,7 @@ impl<'a, 'b> Model for Steps<'a, 'b> {
 
     ghost view = { λ s. s.computation.now.events };
 
-    ghost invariant = { λ s.
-        IsSteps s.computation.now.events s.needs.items s.receivers_x.items s.receivers_y.items };
+    ghost invariant = { λ s. IsSteps s.computation.now.events s.needs.items s.receivers.items };
 }
 
 /// The needs of the events of process `p`, and the one after the last.
@@ -65,55 +63,79 @@ fn needs_of_all(alloc: Global, computation: &Computation<'_>) -> Result<Vec<Vec<
     Ok(rows)
 }
 
-/// Sets bit `p` in the word of this number.
-fn set_receiver(receivers: &mut Vec<u64>, number: usize, p: usize)
-    requires few { p < process_limit }
-    requires within { number < length receivers.old.items }
-    ensures len { length receivers.new.items ≡ length receivers.old.items }
-    ensures kept { (n j : ℕ) → IsTrue (has_bit (slice_index_or receivers.old.items n 0) j)
-        → IsTrue (has_bit (slice_index_or receivers.new.items n 0) j) }
-    ensures set { IsTrue (has_bit (slice_index_or receivers.new.items number 0) p) }
+/// The word with the bit of process `p` set as well.
+fn with_receiver(word: u16, p: usize) -> u16
+    requires { p < process_limit }
+    ensures set { has_bit result p ≡ true }
+    ensures others { (j : ℕ) → j ≢ p → has_bit result j ≡ has_bit word j }
 {
-    receivers[number] = with(receivers[number], p as u64);
+    word | (1 << p)
 }
 
-/// Sets bit `p` in the words of the events of process `q` that are needed by those of a row, which is that of `p`.
-fn add_receiver(row: &[Need], p: usize, q: usize, receivers: &mut Vec<u64>)
-    requires { p < process_limit }
-    ensures len { length receivers.new.items ≡ length receivers.old.items }
-    ensures kept { (n j : ℕ) → IsTrue (has_bit (slice_index_or receivers.old.items n 0) j)
-        → IsTrue (has_bit (slice_index_or receivers.new.items n 0) j) }
-    ensures needed { (i : ℕ) (need : Need) → slice_get row.now i ≡ Some need → need.process ≡ q
-        → need.number < length receivers.old.items
-        → IsTrue (has_bit (slice_index_or receivers.new.items need.number 0) p) }
+/// Sets bit `p` in the word of this number.
+fn set_receiver(receivers: &mut Vec<u16>, number: usize, p: usize)
+    requires few { p < process_limit }
+    requires within { number < length receivers.old.items }
+    ensures { IsSet number p receivers.old.items receivers.new.items }
 {
-    for i in 0..row.len() {
-        let number = row[i].number as usize;
-        if row[i].process as usize == q && number < receivers.len() {
-            set_receiver(receivers, number, p);
-        }
+    receivers[number] = with_receiver(receivers[number], p);
+}
+
+/// Sets bit `p` in the word of the event that is needed, if there is one.
+fn add_receiver(need: Need, p: usize, receivers: &mut Vec<Vec<u16>>)
+    requires { p < process_limit }
+    ensures { HasAdded (IsBitOf (table_view receivers.old.items) need p) (table_view receivers.old.items)
+        (table_view receivers.new.items) }
+{
+    let q = need.process as usize;
+    let number = need.number as usize;
+    if number > 0 && q < receivers.len() && number < receivers[q].len() {
+        set_receiver(&mut receivers[q], number, p);
     }
 }
 
-/// For process `q` a word for each number of events, with a bit for each process of the prefix: it is set if that one
-/// receives the last of these.
-fn receivers_of(
+/// The same for each need of a row, which is that of process `p`.
+fn add_receivers(row: &[Need], p: usize, receivers: &mut Vec<Vec<u16>>)
+    requires { p < process_limit }
+    ensures { HasAdded (IsBitOfRow (table_view receivers.old.items) row.now (length row.now) p)
+        (table_view receivers.old.items) (table_view receivers.new.items) }
+{
+    for i in 0..row.len() {
+        add_receiver(row[i], p, receivers);
+    }
+}
+
+/// For each process a word for each number of its events, without a bit.
+fn no_receivers(alloc: Global, computation: &Computation<'_>) -> Result<Vec<Vec<u16>>, AllocError>
+    ensures { IfOk result (λ receivers. HaveReceivers computation.now.events 0 (length computation.now.events)
+        (table_view receivers.items)) }
+{
+    computation.limits();
+    let mut receivers = Vec::with_capacity(alloc, computation.processes())?;
+    for q in 0..computation.processes() {
+        let count = computation.events(q) as usize;
+        let row = vec![in alloc; 0u16; count + 1]?;
+        receivers.push(row)?;
+    }
+    Ok(receivers)
+}
+
+/// For each process a word for each number of its events, with a bit for each process of the prefix that receives the
+/// last of these. One pass over the needs of the prefix sets all bits.
+fn receivers_of_all(
     alloc: Global,
     computation: &Computation<'_>,
     needs: &[Vec<Need>],
-    q: usize,
-) -> Result<Vec<u64>, AllocError>
+) -> Result<Vec<Vec<u16>>, AllocError>
     requires needs { AreNeeds computation.now.events (length computation.now.events) needs.now }
     requires two { 2 ≤ length computation.now.events }
-    requires within { q < length computation.now.events }
-    ensures { IfOk result (λ receivers.
-        HasReceivers computation.now.events (length computation.now.events - 2) q receivers.items) }
+    ensures { IfOk result (λ receivers. HaveReceivers computation.now.events (length computation.now.events - 2)
+        (length computation.now.events) (table_view receivers.items)) }
 {
     computation.limits();
-    let count = computation.events(q) as usize;
-    let mut receivers = vec![in alloc; 0; count + 1]?;
+    let mut receivers = no_receivers(alloc, computation)?;
     for p in 0..computation.processes() - 2 {
-        add_receiver(&needs[p], p, q, &mut receivers);
+        add_receivers(&needs[p], p, &mut receivers);
     }
     Ok(receivers)
 }
@@ -128,14 +150,11 @@ impl<'a, 'b> Steps<'a, 'b> {
         ensures { IfOk result (λ steps. steps ≡ computation.now.events) }
     {
         let needs = needs_of_all(alloc, computation)?;
-        let processes = computation.processes();
-        let receivers_x = receivers_of(alloc, computation, &needs, processes - 2)?;
-        let receivers_y = receivers_of(alloc, computation, &needs, processes - 1)?;
+        let receivers = receivers_of_all(alloc, computation, &needs)?;
         Ok(Steps {
             computation,
             needs,
-            receivers_x,
-            receivers_y,
+            receivers,
         })
     }
 
@@ -168,33 +187,23 @@ impl<'a, 'b> Steps<'a, 'b> {
         self.needs[p][count as usize]
     }
 
-    /// The processes of the prefix that may receive event `number` of the last process but one, a bit for each. Those
-    /// that do have theirs.
-    pub(crate) fn receivers_x(&self, number: u64) -> u64
-        requires { number ≤ event_count self.now (length self.now - 2) }
-        ensures { (p n : ℕ) → p < length self.now - 2
-            → IsMessage self.now (place (length self.now - 2) number) (place p n) → IsTrue (has_bit result p) }
+    /// The processes of the prefix that receive event `number` of process `q`, a bit for each.
+    fn word(&self, q: usize, number: u64) -> u64
+        requires within { q < length self.now }
+        requires counted { number ≤ event_count self.now q }
+        ensures { AreReceivers self.now (length self.now - 2) (place q number) result }
     {
-        self.receivers_x[number as usize]
+        u64::from(self.receivers[q][number as usize])
     }
 
-    /// The same of the last process.
-    pub(crate) fn receivers_y(&self, number: u64) -> u64
-        requires { number ≤ event_count self.now (length self.now - 1) }
-        ensures { (p n : ℕ) → p < length self.now - 2
-            → IsMessage self.now (place (length self.now - 1) number) (place p n) → IsTrue (has_bit result p) }
-    {
-        self.receivers_y[number as usize]
-    }
-
-    /// Whether event `number` of the last process but one may be a send that a process of the prefix receives. Where it
-    /// is one, the answer is yes.
+    /// Whether a process of the prefix receives event `number` of the last process but one.
     pub(crate) fn may_send_x(&self, number: u64) -> bool
         requires { number ≤ event_count self.now (length self.now - 2) }
-        ensures { IsReceivedBelow self.now (length self.now - 2) (place (length self.now - 2) number)
-            → IsTrue result }
+        ensures { IsTrue result
+            ↔ IsReceivedBelow self.now (length self.now - 2) (place (length self.now - 2) number) }
     {
-        let receivers = self.receivers_x(number);
+        self.limits();
+        let receivers = self.word(self.prefix(), number);
         words(receivers);
         receivers != 0
     }
@@ -202,28 +211,25 @@ impl<'a, 'b> Steps<'a, 'b> {
     /// The same of the last process.
     pub(crate) fn may_send_y(&self, number: u64) -> bool
         requires { number ≤ event_count self.now (length self.now - 1) }
-        ensures { IsReceivedBelow self.now (length self.now - 2) (place (length self.now - 1) number)
-            → IsTrue result }
+        ensures { IsTrue result
+            ↔ IsReceivedBelow self.now (length self.now - 2) (place (length self.now - 1) number) }
     {
-        let receivers = self.receivers_y(number);
+        self.limits();
+        let receivers = self.word(self.prefix() + 1, number);
         words(receivers);
         receivers != 0
     }
 
-    /// The processes of the prefix that may receive event `number` of process `q`, a bit for each. Those that do have
-    /// theirs, and all have it if `q` isn't one of the last two.
+    /// The processes of the prefix that receive event `number` of process `q`, a bit for each. A process that isn't
+    /// there sends nothing.
     pub(crate) fn receivers(&self, q: usize, number: u64) -> u64
         requires { number ≤ event_count self.now q }
-        ensures { (p n : ℕ) → p < length self.now - 2 → IsMessage self.now (place q number) (place p n)
-            → IsTrue (has_bit result p) }
+        ensures { AreReceivers self.now (length self.now - 2) (place q number) result }
     {
         self.limits();
-        if q == self.prefix() {
-            return self.receivers_x(number);
+        if q >= self.prefix() + 2 {
+            return 0;
         }
-        if q == self.prefix() + 1 {
-            return self.receivers_y(number);
-        }
-        lowest(BITS)
+        self.word(q, number)
     }
 }

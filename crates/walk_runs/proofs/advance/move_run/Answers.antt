@@ -156,7 +156,7 @@ returns-clause-some g c =
     (place (length c.args.steps.now - 2) c.if-goes.hi) → c.if-goes-2.top ≡ true =
     (λ e sends. elim c.if-goes-2.branch [
       | then-goes-2 w ↦
-          w.top-is ∙ w.may_send_x-top.ensures (subst (λ (m : ℕ). IsReceivedBelow c.args.steps.now
+          w.top-is ∙ w.may_send_x-top.ensures.1 (subst (λ (m : ℕ). IsReceivedBelow c.args.steps.now
           (length c.args.steps.now - 2) (place (length c.args.steps.now - 2) m)) (sym w.from.ensures) sends)
       | else-goes-2 w ↦ absurd (false≢true (sym w.if-goes-2.false ∙ e))
     ]) in
@@ -164,7 +164,7 @@ returns-clause-some g c =
     (place (length c.args.steps.now - 1) (c.run.inside.rest + 1 - c.if-stays.lo)) → c.if-stays-2.low ≡ true =
     (λ e sends. elim c.if-stays-2.branch [
       | then-stays-2 w ↦
-          w.low-is ∙ w.may_send_y-low.ensures (subst (λ (m : ℕ). IsReceivedBelow c.args.steps.now
+          w.low-is ∙ w.may_send_y-low.ensures.1 (subst (λ (m : ℕ). IsReceivedBelow c.args.steps.now
           (length c.args.steps.now - 2) (place (length c.args.steps.now - 1) m)) (sym w.from-then-stays-2.ensures)
           sends)
       | else-stays-2 w ↦ absurd (false≢true (sym w.if-stays-2.false ∙ e))

@@ -6,9 +6,9 @@ use Rattle.def_model.specs.Events.{Computation, event_count}
 use Rattle.def_model.specs.Cuts.{IsConsistent, one_more}
 use Rattle.walk_runs.specs.Collected.{HasOneMore}
 use Rattle.walk_runs.specs.Kept.{KeyedCut}
-use Rattle.walk_runs.specs.Points.{GrowsBy, point_cut}
+use Rattle.walk_runs.specs.Points.{point_cut}
 use Rattle.walk_runs.proofs.CutKeys.{added_key, cut_back, cut_below, room_for_one}
-use Rattle.walk_runs.proofs.Growing.{grow_yes, grow_no, left_out}
+use Rattle.walk_runs.proofs.Growing.{left_out, yet_all, yet_no, yet_none, yet_yes}
 use Rattle.walk_runs.proofs.RunSteps.{last_counts}
 use Rattle.walk_runs.proofs.UndoneEvents.{added_undoable}
 use Rattle.walk_runs.proofs.birth.add_births.Goals as goal
@@ -69,41 +69,59 @@ module _ (computation : Computation) (two : 2 ≤ length computation) (small : (
 
 pub one_more-requires-clause-below : goal.one_more-requires-clause-below
 one_more-requires-clause-below g c =
+    let lt : c.in-Some.p < length c.args.steps.now - 2 =
+    c.sought_of-sought.ensures.within c.in-Some.p c.in-Some.ensures.some.1 in
     number_below c.args.steps.now c.limits.ensures.two c.limits.ensures.short c.args.point.now c.requires.cut
-    c.prefix-prefix.result (g.K.Key.number c.key_of_cut-cut.result) c.loop-p.p c.prefix-prefix.ensures
-    c.key_of_cut-cut.ensures (omega arith)
+    c.prefix-prefix.result (g.K.Key.number c.key_of_cut-cut.result) c.in-Some.p c.prefix-prefix.ensures
+    c.key_of_cut-cut.ensures (omega (arith, lt, c.prefix-prefix.ensures))
 
 pub one_more-requires-clause-small : goal.one_more-requires-clause-small
 one_more-requires-clause-small g c =
+    let lt : c.in-Some.p < length c.args.steps.now - 2 =
+    c.sought_of-sought.ensures.within c.in-Some.p c.in-Some.ensures.some.1 in
     number_room c.args.steps.now c.limits.ensures.two c.limits.ensures.short c.args.point.now c.requires.cut
-    c.prefix-prefix.result (g.K.Key.number c.key_of_cut-cut.result) c.loop-p.p c.prefix-prefix.ensures
-    c.key_of_cut-cut.ensures (omega arith) (c.makes.ensures.added c.if-makes.true)
+    c.prefix-prefix.result (g.K.Key.number c.key_of_cut-cut.result) c.in-Some.p c.prefix-prefix.ensures
+    c.key_of_cut-cut.ensures (omega (arith, lt, c.prefix-prefix.ensures)) (c.makes.ensures.added c.if-makes.true)
 
-pub loop-p-preserved : goal.loop-p-preserved
-loop-p-preserved g c =
-    elim c.if-makes.branch [
-      | then-makes+in_ok-push w ↦
-          let is : g.K.Key.number w.one_more.result
-          ≡ key_of (one_more (point_cut (length c.args.steps.now - 2) c.args.point.now) c.loop-p.p) =
-          w.one_more.ensures ∙ number_more c.args.steps.now c.limits.ensures.two c.limits.ensures.short c.args.point.now
-          c.requires.cut c.prefix-prefix.result (g.K.Key.number c.key_of_cut-cut.result) c.loop-p.p
-          c.prefix-prefix.ensures c.key_of_cut-cut.ensures (omega arith) in
-          rw (w.born-is) (grow_yes c.args.steps.now
-          (point_cut (length c.args.steps.now - 2) c.args.point.now) c.args.by c.loop-p.p c.args.born.now
-          c.loop-p.born c.loop-p.invariant (c.makes.ensures.added w.if-makes.true)
-          (added_undoable c.args.steps.now (point_cut (length c.args.steps.now - 2) c.args.point.now) c.loop-p.p
-          c.requires.cut (omega (arith, c.prefix-prefix.ensures))) w.push.new.self
-          (subst (λ (key : ℕ). HasOneMore c.loop-p.born (record { cut = key; by = c.loop-p.p }) w.push.new.self) is
-          w.in_ok-push.ensures))
-      | else-makes w ↦
-          rw (w.born-is) (grow_no c.args.steps.now (point_cut (length c.args.steps.now - 2) c.args.point.now) c.args.by
-          c.loop-p.p c.args.born.now c.loop-p.born c.loop-p.invariant
-          (λ wanted. left_out c.makes.result w.if-makes.false (c.makes.ensures.all wanted)))
-    ]
+pub births-init : goal.births-init
+births-init g c = record {
+  within = omega arith;
+  grows = yet_none c.args.steps.now (point_cut (length c.args.steps.now - 2) c.args.point.now) c.args.by
+      (length c.args.steps.now - 2) c.sought_of-sought.result c.args.born.now c.sought_of-sought.ensures.all;
+}
+
+pub births-preserved : goal.births-preserved
+births-preserved g c =
+    let lt : c.in-Some.p < length c.args.steps.now - 2 =
+    c.sought_of-sought.ensures.within c.in-Some.p c.in-Some.ensures.some.1 in
+    record {
+      within = omega arith;
+      grows = elim c.if-makes.branch [
+        | then-makes+in_ok-push w ↦
+            let is : g.K.Key.number w.one_more.result
+            ≡ key_of (one_more (point_cut (length c.args.steps.now - 2) c.args.point.now) c.in-Some.p) =
+            w.one_more.ensures ∙ number_more c.args.steps.now c.limits.ensures.two c.limits.ensures.short
+            c.args.point.now c.requires.cut c.prefix-prefix.result (g.K.Key.number c.key_of_cut-cut.result) c.in-Some.p
+            c.prefix-prefix.ensures c.key_of_cut-cut.ensures (omega (arith, lt, c.prefix-prefix.ensures)) in
+            rw (w.born-is) (yet_yes c.args.steps.now
+            (point_cut (length c.args.steps.now - 2) c.args.point.now) c.args.by (length c.args.steps.now - 2)
+            c.sought_of-sought.result c.births.from c.in-Some.p c.args.born.now c.births.born c.births.invariant.grows
+            c.in-Some.ensures.some.0 c.in-Some.ensures.some.2 lt (c.makes.ensures.added w.if-makes.true)
+            (added_undoable c.args.steps.now (point_cut (length c.args.steps.now - 2) c.args.point.now) c.in-Some.p
+            c.requires.cut (omega arith)) w.push.new.self
+            (subst (λ (key : ℕ). HasOneMore c.births.born (record { cut = key; by = c.in-Some.p }) w.push.new.self) is
+            w.in_ok-push.ensures))
+        | else-makes w ↦
+            rw (w.born-is) (yet_no c.args.steps.now
+            (point_cut (length c.args.steps.now - 2) c.args.point.now) c.args.by (length c.args.steps.now - 2)
+            c.sought_of-sought.result c.births.from c.in-Some.p c.args.born.now c.births.born c.births.invariant.grows
+            c.in-Some.ensures.some.0 c.in-Some.ensures.some.2
+            (λ wanted. left_out c.makes.result w.if-makes.false (c.makes.ensures.all wanted)))
+      ];
+    }
 
 pub returns : goal.returns
 returns g c =
-    let end : c.loop-p.p ≡ length c.args.steps.now - 2 =
-    omega (arith, c.loop-p-test.false, c.loop-p.auto.p-end, c.prefix-prefix.ensures) in
-    subst (λ (n : ℕ). GrowsBy c.args.steps.now (point_cut (length c.args.steps.now - 2) c.args.point.now) c.args.by n
-    c.args.born.now c.loop-p.born) end c.loop-p.invariant
+    yet_all c.args.steps.now (point_cut (length c.args.steps.now - 2) c.args.point.now) c.args.by
+    (length c.args.steps.now - 2) c.sought_of-sought.result c.births.from c.args.born.now c.births.born
+    c.births.invariant.grows c.in_default.ensures.none

@@ -32,6 +32,7 @@ some_need c p n send within room sender =
       within = (sent c p n send sender).2;
       met = met;
       sends = λ other message. sym (same_Some (place_view send) other ((sender other).1 message));
+      sent = λ some there. (sent c p n send sender).0;
     }
   where
     met : (cut : List ℕ) → IsConsistent c cut → get_or cut p 0 ≡ n
@@ -55,6 +56,7 @@ none_need c p n within room sender =
       within = within;
       met = met;
       sends = λ other message. absurd (none-some other ((sender other).1 message));
+      sent = λ some there. absurd (omega arith);
     }
   where
     met : (cut : List ℕ) → IsConsistent c cut → get_or cut p 0 ≡ n

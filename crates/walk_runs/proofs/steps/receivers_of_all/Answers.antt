@@ -1,12 +1,12 @@
--- Who of the prefix receives an event.
+-- Who of the prefix receives each event.
 use Rattle.std.proofs.Common.{◌≡◌, ◌+◌, ◌-◌, ◌<◌, ℕ, length, sym, subst, arith}
 use Rattle.std.specs.Prelude.{Vec}
 use Rattle.std.specs.Global.{Global}
 use Rattle.def_model.specs.Events.{event_count}
-use Rattle.walk_runs.specs.Needs.{HasNeeds}
+use Rattle.walk_runs.specs.Needs.{HasNeeds, HaveReceivers, table_view}
 use Rattle.walk_runs.specs.declared.need.Need.{Need}
-use Rattle.walk_runs.proofs.NeedRows.{receivers_more, ReceiversUpTo}
-use Rattle.walk_runs.proofs.steps.receivers_of.Goals as goal
+use Rattle.walk_runs.proofs.Receivers.{receivers_more}
+use Rattle.walk_runs.proofs.steps.receivers_of_all.Goals as goal
 
 pub loop-p-preserved : goal.loop-p-preserved
 loop-p-preserved c =
@@ -16,17 +16,13 @@ loop-p-preserved c =
     subst (λ (r : Vec Need Global). HasNeeds c.args.computation.now.events c.loop-p.p
     (event_count c.args.computation.now.events c.loop-p.p + 1) r.items) (sym c.index-needs-p.is)
     (c.requires.needs.each c.loop-p.p c.index-needs-p.result within) in
-    receivers_more c.args.computation.now.events c.loop-p.p c.args.q c.index-needs-p.result.items
-    c.loop-p.receivers.items c.add_receiver.new.receivers.items within row c.loop-p.invariant
-    c.add_receiver.ensures.len c.add_receiver.ensures.kept
-    (rw (c.deref.ensures.value) at c.add_receiver.ensures.needed)
+    receivers_more c.args.computation.now.events c.loop-p.p c.index-needs-p.result.items
+    (table_view c.loop-p.receivers.items) (table_view c.add_receivers.new.receivers.items) within row
+    c.loop-p.invariant (rw (c.deref.ensures.value) at c.add_receivers.ensures)
 
 pub returns : goal.returns
 returns c =
     let end : c.loop-p.p ≡ length c.args.computation.now.events - 2 =
     omega (arith, c.loop-p-test.false, c.loop-p.auto.p-end, c.processes-p-end.ensures) in
-    let last : ReceiversUpTo c.args.computation.now.events (length c.args.computation.now.events - 2) c.args.q
-    c.loop-p.receivers.items =
-    subst (λ (n : ℕ). ReceiversUpTo c.args.computation.now.events n c.args.q c.loop-p.receivers.items) end
-    c.loop-p.invariant in
-    record { same = last.same; covers = last.covers }
+    subst (λ (n : ℕ). HaveReceivers c.args.computation.now.events n (length c.args.computation.now.events)
+    (table_view c.loop-p.receivers.items)) end c.loop-p.invariant
