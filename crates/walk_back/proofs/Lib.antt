@@ -7,3 +7,5 @@ pub mod Searching
 pub mod Keeping
 pub mod Ending
 pub mod Roots
+pub mod FreeProcesses
+pub mod FreeWords

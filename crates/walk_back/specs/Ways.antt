@@ -1,10 +1,11 @@
 -- The levels of avoiding cuts that are kept, and how far the way back has come. `test` says whether a cut satisfies.
-use Rattle.std.specs.Prelude.{◌≡◌, ℕ, ◌+◌, ◌-◌, ◌<◌, ◌≤◌, Bool, List, [], ◌++◌, length, sum, Contains, slice_index, slice_index_or}
+use Rattle.std.specs.Prelude.{◌≡◌, ℕ, ◌+◌, ◌-◌, ◌<◌, ◌≤◌, ◌↔◌, Bool, List, [], ◌++◌, length, sum, Contains, IsTrue, slice_index, slice_index_or}
 use Rattle.def_model.specs.Answers.{IsListOf, IsUndoing}
 use Rattle.def_model.specs.Cuts.{IsConsistent, full_cut, one_less}
 use Rattle.def_model.specs.Events.{Computation}
 use Rattle.def_model.specs.Observations.{IsAvoiding}
 use Rattle.pd_level.specs.Levels.{Levelled}
+use Rattle.walk_keys.specs.Words.{has_bit}
 
 -- the level has just the avoiding cuts of its number of events
 abbrev pub IsAvoidingLevel : Computation → (List ℕ → Bool) → Levelled → Type 0
@@ -52,3 +53,7 @@ LeavesOneOf cuts cut p = (0 < slice_index cut p) × Contains cuts (one_less cut 
 -- to undo the last event of process p leaves a consistent cut
 abbrev pub LeavesConsistent : Computation → List ℕ → ℕ → Type 0
 LeavesConsistent c cut p = (0 < slice_index cut p) × IsConsistent c (one_less cut p)
+
+-- the bits of the word are the processes of which the last event can be undone
+abbrev pub AreFree : Computation → List ℕ → ℕ → Type 0
+AreFree c cut free = (p : ℕ) → IsTrue (has_bit free p) ↔ LeavesConsistent c cut p

@@ -1,7 +1,7 @@
 //! Cuts without the last event of a process.
-ghost use Rattle.walk_back.specs.Ways.{LeavesConsistent, LeavesOneOf};
+ghost use Rattle.walk_back.specs.Ways.{LeavesOneOf};
 ghost use Rattle.def_format.specs.Limits.{process_limit};
-ghost use Rattle.def_model.specs.Cuts.{IsConsistent, full_cut, one_less};
+ghost use Rattle.def_model.specs.Cuts.{full_cut, one_less};
 ghost use Rattle.std.specs.Prelude.{◌≡◌, ◌<◌, ◌≤◌, ◌↔◌, ℕ, IsTrue, length, slice_index};
 
 use def_format::PROCESS_LIMIT;
@@ -62,19 +62,4 @@ fn leaves_one_of(alloc: Global, level: &Level, cut: &Cut, p: usize) -> bool
     ensures { IsTrue result ↔ LeavesOneOf level.now.cuts cut.now p }
 {
     cut.counts()[p] > 0 && level.contains(&without_last(alloc, cut, p))
-}
-
-/// The least process whose last event can be undone so that a consistent cut is left.
-pub(crate) fn least_free(cut: &Cut, computation: &Computation<'_>) -> usize
-    requires few { length cut.now ≤ process_limit }
-    requires consistent { IsConsistent computation.now.events cut.now }
-    requires some { (p : ℕ) × (p < length cut.now) × LeavesConsistent computation.now.events cut.now p }
-    ensures leaves { LeavesConsistent computation.now.events cut.now result }
-    ensures least { (q : ℕ) → q < result → ¬ LeavesConsistent computation.now.events cut.now q }
-{
-    let mut p = 0;
-    while !computation.can_undo(cut, p) {
-        p += 1;
-    }
-    p
 }

@@ -1,6 +1,6 @@
 -- What the loop of `free_way` keeps.
 use Rattle.std.proofs.Common.{◌≡◌, sum}
-use Rattle.walk_back.specs.Ways.{IsReached}
+use Rattle.walk_back.specs.Ways.{AreFree, IsReached}
 use Rattle.def_model.specs.Walks.{NoneBelow}
 use Rattle.def_model.specs.Predicates.{test_of}
 use Rattle.pd_pred.specs.Views.{predicate_view}
@@ -11,6 +11,7 @@ invariant-loop-events l = record {
   number : sum l.cut ≡ l.events;
   none_below : NoneBelow l.computation.events (test_of l.computation (predicate_view l._pred)) l.events;
   reached : IsReached l.computation.events (test_of l.computation (predicate_view l._pred)) l.path.items l.cut;
+  free : AreFree l.computation.events l.cut l.free;
 }
 
 abbrev pub decreases-loop-events : goal.decreases-loop-events
