@@ -9,11 +9,16 @@ log, is a process whose events are these changes. Each sends a message, of which
 
     record_store(recorder, "etcd", [Change(revision, mark, {"holder": 1}), ..])   # once the clients have ended
 
+If a store tells positions of its log, which are no change's, as PostgreSQL does, these are handed on too:
+
+    record_store(recorder, "postgres", changes, learned_by("postgres", ["one.stream", "two.stream"]))
+
 A read sends nothing. It orders what its client does later after what the client read, and nothing after the read: two
 clients that read the same revision know nothing of each other.
 
 A session with a store is of version 2, since several clients learn of one change."""
 import collections
+import json
 
 from monitor_recorder import NotRecorded
 
@@ -51,14 +56,28 @@ class StoreClient:
                 self.recorder.event(**variables)
 
 
-def record_store(recorder, store, changes):
-    """Records the changes of a store, in their order: all of those of which a client has learned."""
-    last = None
-    for change in changes:
-        if last is not None and change.revision <= last:
-            raise NotRecorded(f"revision {change.revision} of {store} comes after revision {last}: changes are recorded "
-                              f"in their order")
-        last = change.revision
+def record_store(recorder, store, changes, told=()):
+    """Records the changes of a store, in their order: all of those of which a client has learned. `told` are further
+    revisions that clients have learned, as `learned_by` gives them. One that is no change's becomes an event of its
+    own: it comes after the changes up to there, and sets nothing."""
+    changes = list(changes)
+    for earlier, change in zip(changes, changes[1:]):
+        if change.revision <= earlier.revision:
+            raise NotRecorded(f"revision {change.revision} of {store} comes after revision {earlier.revision}: changes "
+                              f"are recorded in their order")
+    between = set(told).difference(change.revision for change in changes)
+    for change in sorted([*changes, *map(Change, between)], key=lambda change: change.revision):
         if change.mark is not None:
             recorder.receive(change.mark)
         recorder.send(message_of(store, change.revision), **change.variables)
+
+
+def learned_by(store, paths):
+    """The revisions of a store that are learned in these files, which are streams of clients that have ended."""
+    prefix = message_of(store, "")
+    revisions = set()
+    for path in paths:
+        with open(path, encoding="utf-8") as stream:
+            messages = [json.loads(line).get("recv", "") for line in stream]
+        revisions.update(int(message[len(prefix):]) for message in messages if message.startswith(prefix))
+    return revisions

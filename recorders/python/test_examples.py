@@ -1,6 +1,6 @@
 """That the program of examples/failover records what is stored, that of examples/key-rotation what has the stored
-answers, and that the traces of examples/traces and examples/traces-by-sdk make what is stored: python3 -m unittest
-discover -s recorders/python"""
+answers, and that the traces of examples/traces and examples/traces-by-sdk make what is stored; where PostgreSQL is,
+also that examples/postgres-jobs can be recorded again: python3 -m unittest discover -s recorders/python"""
 import contextlib
 import io
 import os
@@ -98,6 +98,27 @@ class Traces(unittest.TestCase):
 
     def test_the_session_is_that_of_the_spans_of_the_sdk(self):
         self.check("traces-by-sdk", 26)
+
+
+class Jobs(unittest.TestCase):
+    """How far the workers come before each other differs between two runs: only with locks the answers are certain."""
+
+    @needs_program
+    def test_it_can_be_recorded(self):
+        with tempfile.TemporaryDirectory() as folder:
+            program = os.path.join(EXAMPLES, "postgres-jobs", "record.py")
+            done = subprocess.run([sys.executable, program, folder], check=True, capture_output=True, timeout=300,
+                                  encoding="utf-8")
+            if done.stdout.startswith("record.py: left out"):
+                self.skipTest(done.stdout.strip())
+            reports = [self.report(folder, example) for example in ("postgres-jobs", "postgres-jobs-locked")]
+        self.assertTrue(reports[0].startswith("session 3 processes "), reports[0])
+        self.assertIn("same_job possibly no\n", reports[1])
+        self.assertIn("done_twice possibly no\n", reports[1])
+
+    def report(self, folder, example):
+        streams = [text_of(folder, example, f"{name}.stream") for name in ("one", "postgres", "two")]
+        return report_of(text_of(EXAMPLES, example, "session.json"), streams)
 
 
 if __name__ == "__main__":

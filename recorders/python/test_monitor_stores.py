@@ -5,7 +5,7 @@ import unittest
 
 from judging import needs_program, report_of
 from monitor_recorder import IdTwice, NotRecorded, Recorder
-from monitor_stores import Change, StoreClient, message_of, record_store
+from monitor_stores import Change, StoreClient, learned_by, message_of, record_store
 
 DOCUMENT = {"version": 2, "processes": [{"name": "a", "vars": {"sees": 0}}, {"name": "b", "vars": {"sees": 0}},
                                         {"name": "store", "vars": {"value": 0}}],
@@ -65,6 +65,38 @@ class Stores(Case):
         recorder = self.recorder("store")
         with self.assertRaisesRegex(NotRecorded, "revision 3 of store comes after revision 3"):
             record_store(recorder, "store", [Change(3), Change(3)])
+
+    def test_what_is_told_between_changes_is_an_event_of_its_own(self):
+        with self.recorder("store") as recorder:
+            record_store(recorder, "store", [Change(4, "a-1", {"value": 1}), Change(9)], {3, 4, 11, 6})
+        self.assertEqual(self.text("store"), '{"process":"store"}\n{"send":"store@3"}\n{"recv":"a-1"}\n'
+                                             '{"send":"store@4","set":{"value":1}}\n{"send":"store@6"}\n'
+                                             '{"send":"store@9"}\n{"send":"store@11"}\n{"end":true}\n')
+
+    def test_what_clients_have_learned(self):
+        for name, revisions in ("a", [2, 5]), ("b", [5, 7]):
+            with self.recorder(name) as recorder:
+                client = StoreClient(recorder, "store")
+                for revision in revisions:
+                    client.learned(revision)
+                client.write()
+                recorder.receive("stores@9")
+        paths = [os.path.join(self.folder, name + ".stream") for name in "ab"]
+        self.assertEqual(learned_by("store", paths), {2, 5, 7})
+        self.assertEqual(learned_by("other", paths), set())
+
+    @needs_program
+    def test_who_is_told_of_a_place_after_a_change_comes_after_it(self):
+        with self.recorder("a") as a, self.recorder("b") as b, self.recorder("store") as store:
+            mark = StoreClient(b, "store").write()
+            StoreClient(a, "store").learned(5, sees=1)
+            StoreClient(b, "store").learned(4, sees=2)
+            record_store(store, "store", [Change(4, mark, {"value": 2})], {4, 5})
+        document = {**DOCUMENT, "predicates": [{"name": "early", "text": "a.sees == 1 and store.value < 2"},
+                                               {"name": "before", "text": "a.sees == 1 and b.sees == 0"}]}
+        report = report_of(document, [self.text(name) for name in ("a", "b", "store")])
+        self.assertIn("early possibly no\n", report, "it comes after the change")
+        self.assertIn("before possibly yes 1,1,3\n", report, "and needn't come after who has written it")
 
     @needs_program
     def test_reads_order_what_comes_after_them_alone(self):
