@@ -40,6 +40,12 @@ extern "C" {
 #define MONITOR_ID_BYTE_LIMIT 64
 /* The room that an id takes with the NUL after it. */
 #define MONITOR_ID_ROOM (MONITOR_ID_BYTE_LIMIT + 1)
+/* An array that is put an id into has this room at least: compilers of C warn of a shorter one, as of the text "x". */
+#ifdef __cplusplus
+#define MONITOR_ID_PLACE MONITOR_ID_ROOM
+#else
+#define MONITOR_ID_PLACE static MONITOR_ID_ROOM
+#endif
 
 typedef struct monitor_recorder monitor_recorder;
 
@@ -83,8 +89,8 @@ monitor_status monitor_to_file(const char *process, const char *path, monitor_re
 monitor_status monitor_to_port(const char *process, uint16_t port, double seconds, monitor_recorder **made);
 
 /* Records to where MONITOR_TO in the environment says, so that no code changes between a test and a live session: to a
- * new file NAME.stream in a folder of this name, which is made if there is none; or to `monitor serve` on a port of this
- * machine, of :7411 or localhost:7411, for which ten seconds are waited. */
+ * new file NAME.stream in a folder of this name, which is made if there is none; or to `monitor serve` on a port of
+ * this machine, of :7411 or localhost:7411, for which ten seconds are waited. */
 monitor_status monitor_from_environment(const char *process, monitor_recorder **made);
 
 /* Records to a file, a pipe or a connection that is open for writing, and waits if it can't write. If this succeeds,
@@ -96,8 +102,8 @@ monitor_status monitor_event(monitor_recorder *recorder, const monitor_setting *
 
 /* This process sends a message to one other or, if the document is of version 2, to several: call it once, BEFORE the
  * message leaves. The id that it makes, the process's name and a counter as in left-1, has to travel with the message.
- */
-monitor_status monitor_send(monitor_recorder *recorder, char id[MONITOR_ID_ROOM], const monitor_setting *settings,
+ * It is put into `id`, and what stands there before says nothing: an id of your own goes to monitor_send_as. */
+monitor_status monitor_send(monitor_recorder *recorder, char id[MONITOR_ID_PLACE], const monitor_setting *settings,
                             size_t count);
 
 /* The same, with an id that no other send of the session has. */

@@ -243,7 +243,8 @@ static void record(char **words, size_t count)
     monitor_setting settings[WORDS];
     bool has_id = strcmp(words[0], "send-as") == 0 || strcmp(words[0], "receive") == 0;
     size_t first = has_id ? 2 : 1;
-    if (!are_settings(words + first, count - first, settings)) {
+    bool takes_text = strcmp(words[0], "send-text") == 0; /* C's send puts a text there, and takes none */
+    if (takes_text || !are_settings(words + first, count - first, settings)) {
         answer("cannot", "");
         return;
     }

@@ -28,6 +28,17 @@ run() {
   exit 1
 }
 
+# A text in place of the room for an id is no id to send: a compiler warns of it.
+cat > text.c <<'END'
+#include "monitor_recorder.h"
+int main(void) { return monitor_send(NULL, "left-1", MONITOR_NOTHING); }
+END
+if cc -std=c11 -Werror -I "$here" -c text.c 2> warned; then
+  echo "c: a text is compiled where monitor_send puts an id"
+  exit 1
+fi
+grep -q -e overflow -e bounds warned || { cat warned; exit 1; }
+
 python3 "$here/../cases/page.py" "$here/README.md" || exit 1
 if [ -n "$sanitized" ]; then
   run "-g -fsanitize=address,undefined -fno-sanitize-recover=all"

@@ -44,6 +44,9 @@ final class Player {
     }
 
     private String answer(String call, List<String> words) {
+        if (call.equals("send-text")) {
+            return "cannot"; // send takes settings alone
+        }
         try {
             String given = make(call, words);
             return given == null ? "recorded" : "recorded " + given;

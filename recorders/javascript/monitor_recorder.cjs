@@ -153,11 +153,19 @@ class Recorder {
   /**
    * This process sends a message to one other or, if the document is of version 2, to several: call it once, BEFORE
    * the message leaves. The id that it makes, the process's name and a counter as in `left-1`, has to travel with the
-   * message.
+   * message. A text before the variables is the id, as of `sendAs`, and is given back.
    */
-  send(variables = {}) {
+  send(first = {}, variables) {
+    if (typeof first === "string") {
+      this.sendAs(first, variables);
+      return first;
+    }
+    if (variables !== undefined) {
+      const advice = "write send({ inside: 1 }) to have an id made, or sendAs(id, { inside: 1 })";
+      throw new NotRecorded("id", `the id of a message must be a text, and is ${kindOf(first)}: ${advice}`);
+    }
     this.#checkRoom();
-    return this.#sendAny(variables);
+    return this.#sendAny(first);
   }
 
   /** The same, with an id that no other send of the session has. */
@@ -291,7 +299,7 @@ class Recorder {
     if (this.#ids.has(message)) {
       throw new NotRecorded("id-twice", `${this.#process} has sent or received ${JSON.stringify(message)} before`);
     }
-    const entries = Object.entries(variables);
+    const entries = Object.entries(checkedVariables(variables));
     const names = this.#checkedNames(entries);
     const fields = field === undefined ? [] : [`"${field}":${JSON.stringify(message)}`];
     if (entries.length > 0) {
@@ -579,6 +587,21 @@ function checkedName(kind, name) {
     );
   }
   return name;
+}
+
+/** An object with the variables: of a text, a number or a `Map` no entries would be seen. */
+function checkedVariables(variables) {
+  if (typeof variables !== "object" || variables === null || Symbol.iterator in variables) {
+    throw new NotRecorded("settings", `variables must be an object, as { inside: 1 }, and are ${kindOf(variables)}`);
+  }
+  return variables;
+}
+
+/** What a value of a wrong kind is, for a message. */
+function kindOf(value) {
+  if (typeof value === "string") return JSON.stringify(value.slice(0, SHOWN));
+  const isObject = typeof value === "object" && value !== null;
+  return isObject ? `of type ${value.constructor?.name ?? "object"}` : String(value).slice(0, SHOWN);
 }
 
 function checkedId(id) {

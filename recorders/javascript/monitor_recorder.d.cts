@@ -19,6 +19,8 @@ export type Reason =
   | "variable-name"
   /** No whole number of 64 bits with a sign, or a number above 2**53 that is no bigint. */
   | "value"
+  /** The variables are no object, as { inside: 1 }. */
+  | "settings"
   /** A process has at most 16 variables. */
   | "variables"
   /** A process has at most 10,000 events. The last one of a strand is kept for its end. */
@@ -109,6 +111,9 @@ export class Recorder {
    * message.
    */
   send(variables?: Variables): string;
+
+  /** The same, with an id that no other send of the session has, which it gives back: as `sendAs`. */
+  send(message: string, variables?: Variables): string;
 
   /** The same, with an id that no other send of the session has. */
   sendAs(message: string, variables?: Variables): void;

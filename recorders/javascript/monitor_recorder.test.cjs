@@ -65,7 +65,35 @@ test("names", () => {
   refused("process-name", () => Recorder.toFile("and", newPath()));
   refused("process-name", () => Recorder.toFile(undefined, newPath()));
   const { recorder } = opened();
-  refused("variable-name", () => recorder.event(["a", "b"]));
+  refused("variable-name", () => recorder.event({ 0: "a" }));
+  recorder.end();
+});
+
+test("variables that are no object", () => {
+  const { recorder, text } = opened();
+  for (const variables of ["", "inside", 7, true, null, [], ["a", "b"], new Map([["x", 1]]), new Set(), () => 1, 1n]) {
+    refused("settings", () => recorder.event(variables));
+    refused("settings", () => recorder.receive("m", variables));
+    refused("settings", () => recorder.sendAs("m", variables));
+    refused("settings", () => recorder.send("m", variables));
+    if (typeof variables !== "string") refused("settings", () => recorder.send(variables));
+  }
+  const message = "variables must be an object, as { inside: 1 }, and are of type Map";
+  assert.throws(() => recorder.event(new Map()), { message });
+  assert.equal(text(), JOIN);
+  recorder.event(Object.assign(Object.create(null), { x: 1 }));
+  assert.equal(text(), `${JOIN}{"set":{"x":1}}\n`);
+  recorder.end();
+});
+
+test("a text before the variables of send is the id", () => {
+  const { recorder, text } = opened();
+  assert.equal(recorder.send("mine"), "mine");
+  assert.equal(recorder.send("other", { x: 1 }), "other");
+  refused("id", () => recorder.send(""));
+  for (const id of [{}, 7, null, undefined]) refused("id", () => recorder.send(id, { x: 2 }));
+  assert.throws(() => recorder.send({ x: 2 }, { y: 1 }), { message: /must be a text.*sendAs\(id, \{ inside: 1 \}\)/ });
+  assert.equal(text(), `${JOIN}{"send":"mine"}\n{"send":"other","set":{"x":1}}\n`);
   recorder.end();
 });
 

@@ -9,7 +9,9 @@ export async function takes(descriptor: number): Promise<Reason | undefined> {
     left.event({ inside: 1, waiting: false, greatest: BigInt("9223372036854775807") });
     const id: string = left.send({ inside: 0 });
     left.sendAs("an id of its own", { inside: 1 });
+    const own: string = left.send("another id of its own", { inside: 0 }) + left.send("a third");
     left.receive(id);
+    left.receive(own);
     const isLast: boolean = left.events === EVENT_LIMIT;
     if (isLast) left.end();
   } catch (error) {
@@ -33,6 +35,10 @@ export async function takes(descriptor: number): Promise<Reason | undefined> {
 export function refuses(left: Recorder): void {
   // @ts-expect-error: a value is no text
   left.event({ inside: "1" });
+  // @ts-expect-error: an id comes before the variables
+  left.send({ inside: 1 }, "an id");
+  // @ts-expect-error: variables are no Map
+  left.event(new Map([["inside", 1]]));
   // @ts-expect-error: a receipt has an id
   left.receive();
   // @ts-expect-error: what is recorded is not for others to set

@@ -16,6 +16,7 @@ const calls = {
   in: callIn,
   event: (...words) => recorder.event(settingsOf(words)),
   send: (...words) => recorder.send(settingsOf(words)),
+  "send-text": (message, ...words) => recorder.send(textOf(message), settingsOf(words)),
   "send-as": (message, ...words) => recorder.sendAs(textOf(message), settingsOf(words)),
   receive: (message, ...words) => recorder.receive(textOf(message), settingsOf(words)),
   events: () => recorder.events,

@@ -200,10 +200,16 @@ class Recorder:
     def send(self, message=None, /, **variables):
         """This process sends a message to one other or, if the document is of version 2, to several: call it once,
         BEFORE the message leaves. The id is given back and has to travel with the message. If none is given one is
-        made, the process's name and a counter, as `left-1`."""
+        made, the process's name and a counter, as `left-1`; a text that is given is the id, as of `send_as`."""
         with self._ready():
             self._refuse_full()
             return self._send(message, variables)
+
+    def send_as(self, message, /, **variables):
+        """The same, with an id that no other send of the session has. Recorders of all languages have this call."""
+        with self._ready():
+            self._refuse_full()
+            self._send(self._checked_id(message), variables)
 
     def receive(self, message, /, **variables):
         """A message has come, with this id: call it AFTER that. A second copy of a message is refused, by `IdTwice`."""
@@ -351,7 +357,8 @@ class Recorder:
 
     def _checked_id(self, message):
         if not isinstance(message, str):
-            raise NotRecorded(f"the id of a message must be a text, and is of type {type(message).__name__}")
+            advice = ": variables are named, as inside=1, or **variables" if isinstance(message, dict) else ""
+            raise NotRecorded(f"the id of a message must be a text, and is of type {type(message).__name__}{advice}")
         try:
             size = len(message.encode())
         except UnicodeEncodeError:

@@ -7,10 +7,11 @@ from urllib.parse import unquote
 from monitor_recorder import NotRecorded, Recorder, current
 
 # What a refusal's text has, for each word of the cases. The first that is found counts.
-REFUSALS = {"process-name": "no name of a process", "variable-name": "no name of a variable", "value": "must be a whole",
-            "variables": "16 variables", "events": "10000 events", "id": "the id", "id-twice": "before",
-            "ended": "is closed", "broken": "is broken off", "name-twice": "another process of this recording",
-            "processes": "16 processes", "not-ended": "no strand that has ended"}
+REFUSALS = {"process-name": "no name of a process", "variable-name": "no name of a variable",
+            "value": "must be a whole", "variables": "16 variables", "events": "10000 events", "id": "the id",
+            "id-twice": "before", "ended": "is closed", "broken": "is broken off",
+            "name-twice": "another process of this recording", "processes": "16 processes",
+            "not-ended": "no strand that has ended"}
 
 
 def text_of(word):
@@ -58,7 +59,10 @@ class Player:
         return self.recorder.send(**settings_of(settings))
 
     def send_as(self, message, *settings):
-        self.recorder.send(text_of(message), **settings_of(settings))
+        self.recorder.send_as(text_of(message), **settings_of(settings))
+
+    def send_text(self, message, *settings):
+        return self.recorder.send(text_of(message), **settings_of(settings))
 
     def receive(self, message, *settings):
         self.recorder.receive(text_of(message), **settings_of(settings))

@@ -110,7 +110,10 @@ class Refused(Case):
             for message in (7, b"m", {"money": 1}):
                 self.refused("must be a text", recorder.send, message)
                 self.refused("must be a text", recorder.receive, message)
+                self.refused("must be a text", recorder.send_as, message)
+            self.refused("variables are named, as inside=1", recorder.send, {"inside": 1})
             self.refused("must be a text", recorder.receive, None)
+            self.refused("must be a text", recorder.send_as, None)
             self.refused("UTF-8", recorder.send, "\ud800")
 
     def test_a_second_copy(self):

@@ -124,6 +124,9 @@ func callIn(name, call string, words []string) (string, error) {
 
 func recordCall(call string, words []string) (string, error) {
 	id := ""
+	if call == "send-text" { // Send takes settings alone
+		return "", errCannot
+	}
 	if call == "send-as" || call == "receive" || call == "join" {
 		id, words = textOf(words[0]), words[1:]
 	}

@@ -136,6 +136,9 @@ fn opened(place: &mut Option<Recorder>, made: Result<Recorder, Error>) -> Made {
 }
 
 fn record(recorder: &Recorder, call: &str, words: &[&str]) -> Option<Made> {
+    if call == "send-text" {
+        return None; // `send` takes settings alone
+    }
     let has_id = matches!(call, "send-as" | "receive");
     let id = if has_id {
         text_of(words[0])
