@@ -237,14 +237,23 @@ static bool begin_or_join(char **words, size_t count)
     return true;
 }
 
+/* Whether C has no such call: its send puts a text into its place, and takes none, and no lock or queue is recorded. */
+static bool is_lacking(const char *call)
+{
+    static const char *const lacking[] = {"send-text", "lock", "unlock", "put", "take"};
+    for (size_t i = 0; i < sizeof lacking / sizeof lacking[0]; i++)
+        if (strcmp(call, lacking[i]) == 0)
+            return true;
+    return false;
+}
+
 static void record(char **words, size_t count)
 {
     char id[MONITOR_ID_ROOM] = "";
     monitor_setting settings[WORDS];
     bool has_id = strcmp(words[0], "send-as") == 0 || strcmp(words[0], "receive") == 0;
     size_t first = has_id ? 2 : 1;
-    bool takes_text = strcmp(words[0], "send-text") == 0; /* C's send puts a text there, and takes none */
-    if (takes_text || !are_settings(words + first, count - first, settings)) {
+    if (is_lacking(words[0]) || !are_settings(words + first, count - first, settings)) {
         answer("cannot", "");
         return;
     }

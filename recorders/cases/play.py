@@ -41,7 +41,7 @@ def play(case, players, folder):
         players.of(process).ask("close")
     paths = [stream.path for stream in streams.values() if stream.size]
     if judged.has_program() and paths:
-        judge(case, folder, paths)
+        judge(None if left_out else case.document, case.report, folder, paths)
     return left_out
 
 
@@ -77,9 +77,9 @@ def make(player, prefix, stream, streams, turns):
     return left_out
 
 
-def judge(case, folder, paths):
-    if case.document:
-        judged.see_report(folder, case.document, paths, case.report)
+def judge(document, report, folder, paths):
+    if document:
+        judged.see_report(folder, document, paths, report)
     else:
         judged.Plain(paths).see(folder)
 

@@ -481,6 +481,95 @@ func FromContext(ctx context.Context) (*Recorder, bool) {
 	return r, ok
 }
 
+// A Mutex is a lock between goroutines, whose unlocking is a message to whoever locks it next: a send of the recorder
+// that is given and a receipt, if that is by another one. So what the mutex keeps apart is kept apart in the recording.
+// But the order in which it was locked is a cause then, and no other order is judged. The zero Mutex is unlocked. None
+// may be copied once it was used.
+type Mutex struct {
+	mutex  sync.Mutex
+	sender *Recorder
+	sent   string // the id of the message of the last unlocking, if nobody has received it
+}
+
+// Lock locks the mutex, as sync.Mutex does, and then records the receipt. If that fails the mutex isn't locked. Without
+// a recorder, which is nil, nothing is recorded.
+func (m *Mutex) Lock(r *Recorder) error {
+	m.mutex.Lock()
+	isHeld := false
+	defer func() {
+		if !isHeld {
+			m.mutex.Unlock()
+		}
+	}()
+	isNew, err := r.receiveFrom(m.sender, m.sent, nil)
+	if isNew {
+		m.sender, m.sent = nil, ""
+	}
+	isHeld = err == nil
+	return err
+}
+
+// Unlock records the send, and then unlocks the mutex, whatever becomes of the send. It may be deferred: what its error
+// says each later call of the recorder says too.
+func (m *Mutex) Unlock(r *Recorder) error {
+	defer m.mutex.Unlock()
+	if r == nil {
+		return nil
+	}
+	id, err := r.Send()
+	if err == nil {
+		m.sender, m.sent = r, id
+	}
+	return err
+}
+
+// A Carried is a value on its way from one goroutine to another, through a channel or the like, as a message:
+//
+//	jobs := make(chan record.Carried[Job], 8)
+//
+//	carried, err := record.Carry(left, job)  // BEFORE the channel has it
+//	jobs <- carried                          // also in a select; what isn't sent then is a message that was lost
+//
+//	job, err := (<-jobs).Take(worker)        // AFTER the channel has given it
+//
+// What a channel tells who sends, as that there is room again or that another goroutine has the value, isn't recorded,
+// and neither is that it was closed: if that is to order anything, carry a value for it.
+type Carried[T any] struct {
+	Value  T
+	sender *Recorder
+	id     string
+}
+
+// Carry records that this process sends the value to another goroutine, as Send does: call it BEFORE the value leaves.
+// Without a recorder, which is nil, nothing is recorded.
+func Carry[T any](r *Recorder, value T, settings ...Setting) (Carried[T], error) {
+	if r == nil {
+		return Carried[T]{Value: value}, nil
+	}
+	id, err := r.Send(settings...)
+	return Carried[T]{Value: value, sender: r, id: id}, err
+}
+
+// Take records that the value has come, as Receive does, and gives it: call it AFTER that. It is no receipt if no
+// recorder has carried it, or the same one; then it is an event if there are settings, and nothing otherwise.
+func (c Carried[T]) Take(r *Recorder, settings ...Setting) (T, error) {
+	isReceived, err := r.receiveFrom(c.sender, c.id, settings)
+	if r != nil && err == nil && !isReceived && len(settings) > 0 {
+		err = r.Event(settings...)
+	}
+	return c.Value, err
+}
+
+// receiveFrom records the receipt of the message, if there is one and another recorder has sent it, and says whether it
+// has.
+func (r *Recorder) receiveFrom(sender *Recorder, id string, settings []Setting) (bool, error) {
+	if r == nil || id == "" || sender == r {
+		return false, nil
+	}
+	err := r.Receive(id, settings...)
+	return err == nil, err
+}
+
 func (r *Recorder) id(number int) string { return r.process + "-" + strconv.Itoa(number) }
 
 // sendAny records a send with an id that it makes; the lock is held.

@@ -395,6 +395,142 @@ func TestStrandsThatAreRefused(t *testing.T) {
 	see(t, err, ErrNameTwice)
 }
 
+func TestAMutexKeepsApart(t *testing.T) {
+	p := openedWithStrands(t)
+	var mutex Mutex
+	inside, most := 0, 0
+	work := func(strand *Recorder) error {
+		defer strand.Close()
+		for turn := 0; turn < 50; turn++ {
+			if err := mutex.Lock(strand); err != nil {
+				return err
+			}
+			inside++
+			if inside > most {
+				most = inside
+			}
+			err := strand.Event(Set("inside", inside))
+			inside--
+			if unlocked := mutex.Unlock(strand); err == nil {
+				err = unlocked
+			}
+			if err != nil {
+				return err
+			}
+		}
+		return nil
+	}
+	errs := make(chan error, 2)
+	for _, strand := range []*Recorder{p.strand("a"), p.strand("b")} {
+		strand := strand
+		go func() { errs <- work(strand) }()
+	}
+	see(t, <-errs, nil)
+	see(t, <-errs, nil)
+	see(t, p.End(), nil)
+	if most != 1 {
+		t.Errorf("there were %d inside", most)
+	}
+}
+
+func TestUnlockingIsAMessageToWhoeverLocksNext(t *testing.T) {
+	p := openedWithStrands(t)
+	a, b := p.strand("a"), p.strand("b")
+	var mutex Mutex
+	for _, r := range []*Recorder{a, a, b, nil, b, a} {
+		see(t, mutex.Lock(r), nil)
+		see(t, mutex.Unlock(r), nil)
+	}
+	see(t, mutex.Lock(b), nil)
+	see(t, mutex.Unlock(nil), nil)
+	see(t, mutex.Lock(b), nil)
+	see(t, p.End(), nil)
+	p.seeStream("a", `{"recv":"left-1"}`, `{"send":"a-1"}`, `{"send":"a-2"}`, `{"recv":"b-2"}`, `{"send":"a-3"}`, endLine)
+	p.seeStream("b", `{"recv":"left-2"}`, `{"recv":"a-2"}`, `{"send":"b-1"}`, `{"send":"b-2"}`,
+		`{"recv":"a-3"}`, endLine)
+}
+
+func TestAMutexThatIsRefusedIsNotLocked(t *testing.T) {
+	p := openedWithStrands(t)
+	a, b := p.strand("a"), p.strand("b")
+	var mutex Mutex
+	see(t, mutex.Lock(a), nil)
+	see(t, mutex.Unlock(a), nil)
+	see(t, b.End(), nil)
+	see(t, mutex.Lock(b), ErrEnded)
+	see(t, mutex.Lock(p.Recorder), nil)
+	see(t, p.End(), nil)
+	see(t, mutex.Unlock(p.Recorder), ErrEnded)
+	see(t, mutex.Lock(nil), nil)
+	p.seeStream("left", `{"send":"left-1"}`, `{"send":"left-2"}`, `{"recv":"a-1"}`, endLine)
+}
+
+func TestValuesThroughAChannel(t *testing.T) {
+	p := openedWithStrands(t)
+	values := make(chan Carried[string])
+	a, b := p.strand("a"), p.strand("b")
+	errs := make(chan error, 1)
+	go func() {
+		defer close(values)
+		for number, value := range []string{"first", "second"} {
+			carried, err := Carry(a, value, Set("x", number))
+			if err != nil {
+				errs <- err
+				return
+			}
+			values <- carried
+		}
+		errs <- a.End()
+	}()
+	var taken []string
+	for carried := range values {
+		value, err := carried.Take(b, Set("y", len(taken)))
+		see(t, err, nil)
+		taken = append(taken, value)
+	}
+	see(t, <-errs, nil)
+	see(t, p.End(), nil)
+	if strings.Join(taken, " ") != "first second" {
+		t.Errorf("there came %q", taken)
+	}
+	p.seeStream("a", `{"recv":"left-1"}`, `{"send":"a-1","set":{"x":0}}`, `{"send":"a-2","set":{"x":1}}`, `{"send":"a-3"}`,
+		endLine)
+	p.seeStream("b", `{"recv":"left-2"}`, `{"recv":"a-1","set":{"y":0}}`, `{"recv":"a-2","set":{"y":1}}`, endLine)
+}
+
+func TestValuesWithoutRecordersOrWithOne(t *testing.T) {
+	r, out := opened(t)
+	carried, err := Carry(nil, 7, Set("x", 1))
+	see(t, err, nil)
+	_, err = carried.Take(r)
+	see(t, err, nil)
+	_, err = Carried[int]{}.Take(r) // as a closed channel gives
+	see(t, err, nil)
+	own, err := Carry(r, 8)
+	see(t, err, nil)
+	_, err = own.Take(r)
+	see(t, err, nil)
+	value, err := own.Take(r, Set("x", 2))
+	see(t, err, nil)
+	if value != 8 {
+		t.Errorf("there came %d", value)
+	}
+	_, err = own.Take(nil, Set("x", 3))
+	see(t, err, nil)
+	other, err := New("right", &memory{room: 1000})
+	see(t, err, nil)
+	_, err = own.Take(other)
+	see(t, err, nil)
+	_, err = own.Take(other)
+	see(t, err, ErrIDTwice)
+	_, err = Carry(r, 9, Set("1", 1))
+	see(t, err, ErrVariableName)
+	seeText(t, out, `{"process":"left"}
+{"send":"left-1"}
+{"set":{"x":2}}
+`)
+}
+
 func TestAStrandOverAConnection(t *testing.T) {
 	listener, err := net.Listen("tcp4", "127.0.0.1:0")
 	see(t, err, nil)

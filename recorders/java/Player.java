@@ -44,14 +44,11 @@ final class Player {
     }
 
     private String answer(String call, List<String> words) {
-        if (call.equals("send-text")) {
-            return "cannot"; // send takes settings alone
-        }
         try {
             String given = make(call, words);
             return given == null ? "recorded" : "recorded " + given;
-        } catch (NumberFormatException error) {
-            return "cannot"; // Java has no such value of 64 bits
+        } catch (NumberFormatException | UnsupportedOperationException error) {
+            return "cannot"; // Java has no such value of 64 bits, or no such call
         } catch (NotRecordedException error) {
             return "refused " + error.reason().name().toLowerCase(Locale.ROOT).replace('_', '-');
         } catch (IOException | UncheckedIOException error) {
@@ -84,6 +81,7 @@ final class Player {
             case "close" -> close();
             case "threads" -> run(words.get(0), thread -> takeTurns(thread, Integer.parseInt(words.get(1))));
             case "flood" -> run(words.get(0), thread -> sendAll());
+            case "send-text", "lock", "unlock", "put", "take" -> throw new UnsupportedOperationException(call);
             default -> throw new IllegalStateException("no call " + call);
         }
         return null;

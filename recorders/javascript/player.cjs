@@ -4,6 +4,8 @@ const { setImmediate: pause } = require("node:timers/promises");
 const readline = require("node:readline");
 const { NotRecorded, Recorder } = require("./monitor_recorder.cjs");
 
+const CANNOT = new Error("JavaScript has no such call");
+
 let recorder;
 let recorders;
 
@@ -24,8 +26,16 @@ const calls = {
   close: () => recorder?.close(),
   threads: (count, turns) => run(Number(count), takeTurns, Number(turns)),
   flood: (count) => run(Number(count), sendAll),
+  lock: cannot,
+  unlock: cannot,
+  put: cannot,
+  take: cannot,
   strands: (count, turns) => takeStrands(Number(count), Number(turns)),
 };
+
+function cannot() {
+  throw CANNOT;
+}
 
 function begin(process, made) {
   recorder = made;
@@ -107,6 +117,7 @@ async function answer(call, words) {
     const given = await calls[call](...words);
     return given === undefined ? "recorded" : `recorded ${given}`;
   } catch (error) {
+    if (error === CANNOT) return "cannot";
     if (error instanceof NotRecorded) return `refused ${error.reason}`;
     if (error.syscall) return "failed";
     throw error;

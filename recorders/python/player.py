@@ -1,10 +1,11 @@
 """Makes the calls that it is told on its standard input by the recorder for Python: see recorders/cases/README.md."""
+import collections
 import json
 import sys
 import threading
 from urllib.parse import unquote
 
-from monitor_recorder import NotRecorded, Recorder, current
+from monitor_recorder import CURRENT, NotRecorded, RecordedLock, RecordedQueue, Recorder, current
 
 # What a refusal's text has, for each word of the cases. The first that is found counts.
 REFUSALS = {"process-name": "no name of a process", "variable-name": "no name of a variable",
@@ -37,6 +38,28 @@ class Player:
 
     def begin(self, process, recorder):
         self.recorder, self.recorders = recorder, {process: recorder}
+        self.locks = collections.defaultdict(RecordedLock)
+        self.queues = collections.defaultdict(RecordedQueue)
+
+    def lock(self, name):
+        self.with_current(self.locks[name].acquire)
+
+    def unlock(self, name):
+        self.with_current(self.locks[name].release)
+
+    def put(self, name):
+        self.with_current(self.queues[name].put, name)
+
+    def take(self, name):
+        self.with_current(self.queues[name].get_nowait)
+
+    def with_current(self, call, *words):
+        """Makes the call as in a block of the recorder."""
+        token = CURRENT.set(self.recorder)
+        try:
+            call(*words)
+        finally:
+            CURRENT.reset(token)
 
     def strand(self, name):
         self.recorders[name] = self.recorder.strand(text_of(name))

@@ -20,6 +20,10 @@ import (
 var (
 	recorder  *record.Recorder
 	recorders map[string]*record.Recorder // the recorder of the process and those of its strands, by their names
+
+	// What goroutines share, by its names.
+	mutexes  map[string]*record.Mutex
+	channels map[string]chan record.Carried[string]
 )
 
 // errCannot says that Go has no such call.
@@ -68,6 +72,7 @@ func makeCall(call string, words []string) (given string, err error) {
 	case "file":
 		recorder, err = record.ToFile(textOf(words[0]), textOf(words[1]))
 		recorders = map[string]*record.Recorder{words[0]: recorder}
+		mutexes, channels = map[string]*record.Mutex{}, map[string]chan record.Carried[string]{}
 	case "strand":
 		err = begin(words[0])
 	case "in":
@@ -88,6 +93,8 @@ func makeCall(call string, words []string) (given string, err error) {
 		err = takeTurns(int(numberOf(words[0])), int(numberOf(words[1])))
 	case "flood":
 		err = flood(int(numberOf(words[0])))
+	case "lock", "unlock", "put", "take":
+		err = share(call, words[0])
 	default:
 		return recordCall(call, words)
 	}
@@ -111,6 +118,25 @@ func begin(name string) error {
 	if err == nil {
 		recorders[name] = strand
 	}
+	return err
+}
+
+// share makes a call of what goroutines share.
+func share(call, name string) error {
+	if mutexes[name] == nil {
+		mutexes[name], channels[name] = &record.Mutex{}, make(chan record.Carried[string], 8)
+	}
+	switch call {
+	case "lock":
+		return mutexes[name].Lock(recorder)
+	case "unlock":
+		return mutexes[name].Unlock(recorder)
+	case "put":
+		carried, err := record.Carry(recorder, name)
+		channels[name] <- carried
+		return err
+	}
+	_, err := (<-channels[name]).Take(recorder)
 	return err
 }
 

@@ -136,8 +136,8 @@ fn opened(place: &mut Option<Recorder>, made: Result<Recorder, Error>) -> Made {
 }
 
 fn record(recorder: &Recorder, call: &str, words: &[&str]) -> Option<Made> {
-    if call == "send-text" {
-        return None; // `send` takes settings alone
+    if matches!(call, "send-text" | "lock" | "unlock" | "put" | "take") {
+        return None; // `send` takes settings alone, and no lock or channel is recorded
     }
     let has_id = matches!(call, "send-as" | "receive");
     let id = if has_id {
