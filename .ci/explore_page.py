@@ -12,7 +12,7 @@ import sys
 
 CRATE = pathlib.Path(__file__).resolve().parent.parent / "crates" / "out_page"
 PAGE = CRATE / "page"
-SCRIPTS = ["run.js", "diagram.js", "panel.js", "main.js"]
+SCRIPTS = ["run.js", "predicate.js", "diagram.js", "panel.js", "main.js"]
 COLUMNS = 116
 ESCAPES = {0x0A: "\\n", 0x22: '\\"', 0x5C: "\\\\"}
 
@@ -63,7 +63,7 @@ def modules(before, after):
     found = [("before", "The page's text before its data", before)]
     for script, piece in zip(SCRIPTS, pieces, strict=True):
         name = script.split(".")[0]
-        found.append((name, f"The page's text after its data: the one with the script `page/{script}`", piece))
+        found.append((name, f"The page's text after its data: the one with `page/{script}`", piece))
     return found
 
 

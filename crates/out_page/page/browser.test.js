@@ -455,7 +455,7 @@ test("a message with several receipts has all of them, and ids are never mark-up
      [{ process: "c" }, { recv: ids[0] }, { set: { x: 1 } }]]));
   await page.js("for (let p = 0; p < run.size; p++) for (let i = 1; i <= run.counts[p]; i++) select(p, i)");
   assert.equal(await page.js("document.querySelectorAll('img, iframe, a').length"), 0);
-  assert.equal(await page.js("document.querySelectorAll('script').length"), 4);
+  assert.equal(await page.js("document.querySelectorAll('script').length"), 5);
   await page.js("select(0, 1)");
   assert.match(await page.text("event-body"), /received by b#1 c#1/);
   await page.js("setCut([0, 0, 0]); cutTo(2, 1)");

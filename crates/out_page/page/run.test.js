@@ -1,6 +1,7 @@
 "use strict";
-// Tests of run.js: against all cuts of small runs, against judge, check and explore of the program, and on cases by
-// hand. `MONITOR=PROGRAM EXAMPLES=FOLDER node --test run.test.js`; what needs the program is left out without it.
+// Tests of run.js and predicate.js: against all cuts of small runs, against judge, check and explore of the program, and
+// on cases by hand. `MONITOR=PROGRAM EXAMPLES=FOLDER node --test run.test.js`; what needs the program is left out
+// without it.
 const { test } = require("node:test");
 const assert = require("node:assert");
 const { spawnSync } = require("node:child_process");
@@ -8,9 +9,10 @@ const fs = require("node:fs");
 const os = require("node:os");
 const path = require("node:path");
 const script = require("./run.js");
+const { parsePredicate, typedPredicate } = require("./predicate.js");
 const { readRun, isConsistent, moveTo, valueAt, reader, readPredicate, isTrue, deciding, stepsOf, cutAtStep, find,
         fragmentOf, readFragment, coneOf, messagesBetween, sentBy, levelOf, lineOf, sourceOf,
-        verdictOf, verdictText, parsePredicate, typedPredicate } = script;
+        verdictOf, verdictText } = script;
 
 const MONITOR = process.env.MONITOR;
 const EXAMPLES = process.env.EXAMPLES;

@@ -12,6 +12,7 @@ use Rattle.out_page.specs.declared.text_before.TheConstants.{BEFORE}
 use Rattle.out_page.specs.declared.text_diagram.TheConstants.{DIAGRAM}
 use Rattle.out_page.specs.declared.text_main.TheConstants.{MAIN}
 use Rattle.out_page.specs.declared.text_panel.TheConstants.{PANEL}
+use Rattle.out_page.specs.declared.text_predicate.TheConstants.{PREDICATE}
 use Rattle.out_page.specs.declared.text_run.TheConstants.{RUN}
 
 abbrev pub truth_text : Bool → List ℕ
@@ -62,6 +63,9 @@ text_before = BEFORE.now
 unfoldable pub text_run : List ℕ
 text_run = RUN.now
 
+unfoldable pub text_predicate : List ℕ
+text_predicate = PREDICATE.now
+
 unfoldable pub text_diagram : List ℕ
 text_diagram = DIAGRAM.now
 
@@ -73,7 +77,7 @@ text_main = MAIN.now
 
 -- the page's text after its data
 unfoldable pub text_after : List ℕ
-text_after = text_run ++ text_diagram ++ text_panel ++ text_main
+text_after = text_run ++ text_predicate ++ text_diagram ++ text_panel ++ text_main
 
 unfoldable pub page_text : Document → List Source → Computation → List (Place × Place) → Outcome → List ℕ
 page_text document sources events messages outcome =

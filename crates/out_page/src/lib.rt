@@ -7,7 +7,7 @@
 //! id is.
 //!
 //! - `text_before`: the page's text before its data
-//! - `text_run`, `text_diagram`, `text_panel`, `text_main`: the texts after its data, one a script
+//! - `text_run`, `text_predicate`, `text_diagram`, `text_panel`, `text_main`: the texts after its data, one a script
 //! - `json_texts`: texts of JSON
 //! - `predicate_data`: a predicate's tree
 //! - `event_data`: processes, variables, events and messages
@@ -32,6 +32,7 @@ mod text_before;
 mod text_diagram;
 mod text_main;
 mod text_panel;
+mod text_predicate;
 mod text_run;
 
 pub use content::{Content, Outcome};

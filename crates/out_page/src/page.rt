@@ -1,6 +1,6 @@
 //! A page's text, also written.
 ghost use Rattle.pd_match.specs.Views.{pairs_view};
-ghost use Rattle.out_page.specs.Pages.{page_text, text_after, text_before, text_diagram, text_main, text_panel, text_run};
+ghost use Rattle.out_page.specs.Pages.{page_text, text_after, text_before, text_diagram, text_main, text_panel, text_predicate, text_run};
 ghost use Rattle.out_page.specs.Views.{outcome_view, sources_view};
 ghost use Rattle.pd_spec.specs.Views.{document_view};
 ghost use Rattle.read_traces.specs.Views.{computation_view};
@@ -13,6 +13,7 @@ use super::text_before::BEFORE;
 use super::text_diagram::DIAGRAM;
 use super::text_main::MAIN;
 use super::text_panel::PANEL;
+use super::text_predicate::PREDICATE;
 use super::text_run::RUN;
 use pd_report::{WriteFault, push_bytes, write_all};
 use std::alloc::{AllocError, Global};
@@ -32,6 +33,14 @@ fn text_run() -> &'static [u8]
     ensures { result.now ≡ text_run }
 {
     RUN
+}
+
+/// The text with the script that reads a predicate that is typed.
+#[tactic(auto, unfolding(crate::specs::Pages::text_predicate))]
+fn text_predicate() -> &'static [u8]
+    ensures { result.now ≡ text_predicate }
+{
+    PREDICATE
 }
 
 /// The text with the script that draws the run.
@@ -64,6 +73,7 @@ fn push_after(out: &mut Vec<u8>) -> Result<(), AllocError>
     ensures { OnOk result (out.new.items ≡ out.old.items ++ text_after) }
 {
     push_bytes(out, text_run())?;
+    push_bytes(out, text_predicate())?;
     push_bytes(out, text_diagram())?;
     push_bytes(out, text_panel())?;
     push_bytes(out, text_main())

@@ -6,10 +6,11 @@ pub(crate) const BEFORE: &[u8] = b"\
     <html lang=\"en\">\n\
     <head>\n\
     <meta charset=\"utf-8\">\n\
-    <meta http-equiv=\"Content-Security-Policy\" content=\"default-src 'none'; script-src 'sha256-II0HsJHCX3NqMi8\
-    rfKDSK2xuAGGBfGx7wMdd7ardFuk=' 'sha256-jFJT/wKmICUzerypbaDyJxlmOpy+zPesUZXWwCDwgdY=' 'sha256-Mq0MBf1W0m1Hqgq5\
-    COBxyrGDaxRBnZB5ciQpPwZfjXY=' 'sha256-MWQu57c/1kW3iJa57keaaqSAoH5cr0e5/LEu+lfX2KA='; style-src 'sha256-da167k\
-    3R0/IC0gSw5Lt2U7dWgKXjf7dybi4foOJhsPA='; base-uri 'none'; form-action 'none'\">\n\
+    <meta http-equiv=\"Content-Security-Policy\" content=\"default-src 'none'; script-src 'sha256-scr185uJJHz4km6\
+    gqNUeosctzuhA/gEyrsFaXOKF79I=' 'sha256-ELJWnDhlCBUfJorKQZ+GL05onk7yAn/f9SXOR3si6vE=' 'sha256-jFJT/wKmICUzeryp\
+    baDyJxlmOpy+zPesUZXWwCDwgdY=' 'sha256-Mq0MBf1W0m1Hqgq5COBxyrGDaxRBnZB5ciQpPwZfjXY=' 'sha256-MWQu57c/1kW3iJa57\
+    keaaqSAoH5cr0e5/LEu+lfX2KA='; style-src 'sha256-da167k3R0/IC0gSw5Lt2U7dWgKXjf7dybi4foOJhsPA='; base-uri 'none\
+    '; form-action 'none'\">\n\
     <meta name=\"viewport\" content=\"width=device-width, initial-scale=1\">\n\
     <meta name=\"referrer\" content=\"no-referrer\">\n\
     <meta name=\"color-scheme\" content=\"light dark\">\n\

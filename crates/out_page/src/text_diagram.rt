@@ -1,6 +1,6 @@
-//! The page's text after its data: the one with the script `page/diagram.js`. `.ci/explore_page.py --write` writes it.
+//! The page's text after its data: the one with `page/diagram.js`. `.ci/explore_page.py --write` writes it.
 
-/// The page's text after its data: the one with the script `page/diagram.js`.
+/// The page's text after its data: the one with `page/diagram.js`.
 pub(crate) const DIAGRAM: &[u8] = b"\
     <script>\n\
     \"use strict\";\n\

@@ -1,6 +1,6 @@
-//! The page's text after its data: the one with the script `page/main.js`. `.ci/explore_page.py --write` writes it.
+//! The page's text after its data: the one with `page/main.js`. `.ci/explore_page.py --write` writes it.
 
-/// The page's text after its data: the one with the script `page/main.js`.
+/// The page's text after its data: the one with `page/main.js`.
 pub(crate) const MAIN: &[u8] = b"\
     <script>\n\
     \"use strict\";\n\

@@ -1,6 +1,6 @@
-//! The page's text after its data: the one with the script `page/panel.js`. `.ci/explore_page.py --write` writes it.
+//! The page's text after its data: the one with `page/panel.js`. `.ci/explore_page.py --write` writes it.
 
-/// The page's text after its data: the one with the script `page/panel.js`.
+/// The page's text after its data: the one with `page/panel.js`.
 pub(crate) const PANEL: &[u8] = b"\
     <script>\n\
     \"use strict\";\n\
