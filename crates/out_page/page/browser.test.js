@@ -102,9 +102,9 @@ class Page {
     return result.value;
   }
 
-  // Waits for two frames.
+  // Waits for two frames. Without the `await` it would get the promise itself.
   settle() {
-    return this.js("new Promise((done) => requestAnimationFrame(() => requestAnimationFrame(() => done(0))))");
+    return this.js("await new Promise((done) => requestAnimationFrame(() => requestAnimationFrame(() => done(0))))");
   }
 
   // Waits until something holds in the page; the test's own limit ends it if it never does.
@@ -401,6 +401,129 @@ test("of many lanes the messages that matter stand out", needed, async () => {
   await page.close();
 });
 
+test("only what matters is shown, and the cut goes on as before", needed, async () => {
+  const file = example("gossip");
+  const page = await Page.open(file);
+  const pressed = () => page.js("byId('only').getAttribute('aria-pressed')");
+  const dots = () => page.js("run.shown.map(({ columns }) => columns.length - 1)");
+  assert.deepEqual([await pressed(), await page.text("hidden")], ["false", ""]);
+  const all = await dots();
+  await page.js("byId('only').click()");
+  await page.settle();
+  assert.equal(await pressed(), "true");
+  assert.equal(await page.text("hidden"), "Shown: the 3 events of 376 that set what two_leaders names, and the 1 " +
+    "message of 64 that orders them. A dashed line hides events.");
+  assert.deepEqual(await dots(), [0, 2, 0, 2, 0, 0]);
+  await page.click(1, 35);
+  assert.equal(await page.js("state.cut[1]"), 35);
+  await page.js("lanes[1].lane.focus()");
+  await page.press("ArrowRight");
+  assert.deepEqual(await page.js("[state.cut[1], isConsistent(run, state.cut)]"), [36, true], "into what is hidden");
+  const [x, y] = await page.grip(3);
+  await page.drag([x, y], [(await page.place(3, 50))[0] + 12, y]);
+  assert.equal(await page.js("state.cut[3] >= 50 && state.cut[1] >= 36 && isConsistent(run, state.cut)"), true);
+  await page.until("location.hash.includes('only=two_leaders')");
+  const [fragment, cut] = [await page.js("location.hash"), await page.cut()];
+  await page.js("show(1)");
+  assert.match(await page.text("status"), /^south1/);
+  assert.notDeepEqual(await dots(), [0, 2, 0, 2, 0, 0], "another predicate, other events");
+  await page.js("show(1)");
+  assert.deepEqual([await pressed(), await page.js("byId('only').disabled"), await dots()], ["false", true, all]);
+  await page.js("show(0); byId('only').click()");
+  assert.deepEqual([await pressed(), await dots()], ["false", all]);
+  await page.close();
+  const again = await Page.open(file, fragment);
+  assert.deepEqual([await again.js("run.only.events"), await again.cut()], [3, cut]);
+  await again.js("byId('query').value = 'north1#5'; toHit(1)");
+  assert.equal(await again.text("event-title"), "Event north1#5", "a hidden event is found too");
+  await again.close();
+});
+
+test("lanes are folded and moved, by pointer and keys", needed, async () => {
+  const file = example("failover");
+  const page = await Page.open(file);
+  const heads = () => page.js("[...document.querySelectorAll('.head .name')].map((each) => each.textContent).join()");
+  const grip = (p) => page.js(`(({ left, top }) => [left + 8, top + 10])(lanes[${p}].grip.getBoundingClientRect())`);
+  assert.equal(await heads(), "manager,east,west");
+  const [x, y] = await grip(2);
+  await page.drag([x, y], [x, y - await page.js("2 * size.lane")]);
+  assert.deepEqual([await heads(), await page.js("state.order")], ["west,manager,east", [2, 0, 1]]);
+  assert.deepEqual(await page.js("lanes.map(({ lane }, p) => Math.abs(lane.getBoundingClientRect().top - " +
+    "canvas.getBoundingClientRect().top - size.tops[p]) < 1)"), [true, true, true], "heads stand at their lanes");
+  await page.js("lanes[2].grip.focus()");
+  await page.press("ArrowDown");
+  assert.equal(await heads(), "manager,west,east");
+  assert.equal(await page.js("document.activeElement === lanes[2].grip"), true, "the focus goes along");
+  await page.press("ArrowDown", "ArrowDown");
+  assert.equal(await heads(), "manager,east,west", "and no farther than the last place");
+  await page.js("byId('named-first').click()");
+  assert.equal(await heads(), "east,west,manager");
+  await page.js("lanes[0].lane.focus()");
+  await page.press("ArrowUp");
+  assert.equal(await page.js("document.activeElement.getAttribute('aria-label')"), "west", "the lane above, as shown");
+  await page.js("lanes[0].fold.click()");
+  await page.settle();
+  assert.deepEqual(await page.js("[lanes[0].head.offsetHeight, size.heights[0], lanes[0].fold.ariaExpanded]"),
+    [20, 20, "false"]);
+  assert.equal(await page.text("hidden"), "Folded: manager.");
+  assert.deepEqual(await page.js("[...run.messages.ids.keys()].map((m) => foldedEnds(run, size, m))"), [1, 1, 1, 1]);
+  const cut = await page.cut();
+  await page.click(0, 4);
+  assert.deepEqual(await page.cut(), cut, "no event of a folded lane is clicked");
+  await page.js("lanes[1].fold.click()");
+  await page.settle();
+  assert.equal(await page.text("hidden"),
+    "Folded: east, manager. 2 messages in view, between folded lanes, are hidden.");
+  await page.js("cutTo(0, 4)");
+  assert.equal(await page.js("isConsistent(run, state.cut) && state.cut[0]"), 4);
+  await page.until("location.hash.includes('lanes=1,2,0&folded=0,1')");
+  const fragment = await page.js("location.hash");
+  await page.js("select(1, 3)");
+  assert.deepEqual(await page.js("state.folded"), [true, false, false], "what is selected is seen");
+  await page.js("byId('reset-lanes').click()");
+  assert.deepEqual([await heads(), await page.js("state.folded.includes(true) || !byId('reset-lanes').disabled")],
+    ["manager,east,west", false]);
+  await page.close();
+  const again = await Page.open(file, fragment, { width: 390, dark: true });
+  await again.call("Emulation.setTouchEmulationEnabled", { enabled: true, maxTouchPoints: 1 });
+  assert.deepEqual(await again.js("[state.order, state.folded]"), [[1, 2, 0], [true, true, false]]);
+  assert.equal(await again.js("document.documentElement.scrollWidth > document.documentElement.clientWidth"), false,
+    "nothing stands out of a phone");
+  const [u, v] = await again.js("(({ left, top }) => [left + 8, top + 10])(lanes[0].grip.getBoundingClientRect())");
+  const touch = (type, ...touchPoints) => again.call("Input.dispatchTouchEvent", { type, touchPoints });
+  await touch("touchStart", { x: u, y: v });
+  for (let k = 1; k <= 6; k++) await touch("touchMove", { x: u, y: v - 40 * k });
+  await touch("touchEnd");
+  await again.settle();
+  assert.deepEqual(await again.js("state.order"), [0, 1, 2], "dragged by a finger");
+  await again.close();
+});
+
+test("what is shown is saved as a drawing, in which no text is mark-up", needed, async () => {
+  const page = await Page.open(example("failover"));
+  const look = `(() => {
+    const text = drawingText(run, state, palette, size, lanes);
+    const { documentElement: svg } = new DOMParser().parseFromString(text, "image/svg+xml");
+    return { root: svg.localName, circles: svg.querySelectorAll("circle").length,
+             scripts: svg.querySelectorAll("script, image, foreignObject, use, [style]").length,
+             texts: [...svg.querySelectorAll("text")].map((each) => each.textContent),
+             links: (text.match(/https?:[^"]*/g) ?? []).join() };
+  })()`;
+  const plain = await page.js(look);
+  assert.deepEqual([plain.root, plain.circles, plain.scripts], ["svg", 13, 0]);
+  for (const word of ["manager", "east", "west", "2/4", "leader = 1"]) assert.ok(plain.texts.includes(word), word);
+  assert.equal(plain.links, "http://www.w3.org/2000/svg", "it asks for nothing");
+  const name = "</text><script>alert(1)</script>&\"";
+  await page.js(`select(1, 3); run.names[2] = ${JSON.stringify(name)}; lanes[0].fold.click(); byId("only").click()`);
+  const nasty = await page.js(look);
+  assert.deepEqual([nasty.root, nasty.scripts], ["svg", 0]);
+  assert.ok(nasty.texts.some((text) => text.startsWith("</text><script>")));
+  await page.js(`globalThis.saved = []; HTMLAnchorElement.prototype.click = function () {
+    saved.push([this.download, this.href.slice(0, 5)]); }; byId("save-drawing").click(); 0`);
+  assert.deepEqual(await page.js("saved"), [["run.svg", "blob:"]]);
+  await page.close();
+});
+
 test("an observation is a film", needed, async () => {
   const page = await Page.open(example("failover"));
   await page.click(1, 3);
@@ -455,7 +578,7 @@ test("a message with several receipts has all of them, and ids are never mark-up
      [{ process: "c" }, { recv: ids[0] }, { set: { x: 1 } }]]));
   await page.js("for (let p = 0; p < run.size; p++) for (let i = 1; i <= run.counts[p]; i++) select(p, i)");
   assert.equal(await page.js("document.querySelectorAll('img, iframe, a').length"), 0);
-  assert.equal(await page.js("document.querySelectorAll('script').length"), 5);
+  assert.equal(await page.js("document.querySelectorAll('script').length"), 9);
   await page.js("select(0, 1)");
   assert.match(await page.text("event-body"), /received by b#1 c#1/);
   await page.js("setCut([0, 0, 0]); cutTo(2, 1)");
@@ -543,5 +666,13 @@ test("a large run is opened, drawn and moved in", needed, async () => {
   await page.press("ArrowRight", "End", "Home");
   assert.equal(await page.js("isConsistent(run, state.cut)"), true);
   console.log(`  160,000 events: loaded after ${drawn[0]} ms, drawn in ${drawn.slice(1).join(", ")} ms`);
+  const taken = await page.js(`[["only", toggleOnly], ["all", toggleOnly], ["folded", () => toggleFold(3)],
+    ["moved", () => toPlace(5, 0)], ["SVG", () => drawingText(run, state, palette, size, lanes)]].map(([what, act]) => {
+      const start = performance.now();
+      act();
+      draw();
+      return what + " " + Math.round(performance.now() - start) + " ms";
+    }).join(", ")`);
+  console.log("  and drawn anew: " + taken);
   await page.close();
 });

@@ -1,5 +1,5 @@
 "use strict";
-// The page: its state, and what keys, pointer and buttons do to it.
+// The page: its state, and what keys and buttons do to it.
 
 const FILM_SPEEDS = [1, 2, 4, 10, 30, 100, 300, 1000];
 const UNDO_LIMIT = 200;
@@ -7,9 +7,6 @@ const UNDO_LIMIT = 200;
 // at least some, and how high at most; from how many pixels of a column on it is shown whole, how many a column has if
 // not, and how fine a pixel is.
 const PAPER = { width: 958, names: 138, height: 400, whole: 9, scale: 26, ratio: 3 };
-// Below the last one of narrow lanes its numbers have some pixels more.
-const ROOMY_LANE = 48;
-const UNDER_LAST = 10;
 const HOW_TO_MOVE = "Move it: click an event, drag a grip, or use the arrow keys on a lane.";
 
 window.addEventListener("error", (event) => { byId("status").textContent = "The page failed: " + event.message; });
@@ -21,11 +18,12 @@ const state = {
   cut: run.counts.map(() => 0), before: run.counts.map(() => 0), forced: [], undo: [],
   lane: 0, focused: false, selected: null, cone: null, shown: -1, typed: null, film: null, query: "", hits: [], hit: -1,
   view: { left: 0, scale: 1 }, listing: { p: 0, first: 1 },
+  order: [...run.names.keys()], folded: run.names.map(() => false), only: false,
 };
 const actions = { show, showCut, playFilm, select, cutTo, unselect: () => select(null) };
 const canvas = byId("diagram");
 const overview = byId("overview");
-const size = { width: 0, height: 0, top: 0, lane: 0, ratio: 1 };
+const size = { width: 0, height: 0, top: 0, lane: 0, ratio: 1, order: [], folded: [], heights: [], tops: [] };
 const strip = { width: 0, height: 0, ground: null };
 let palette = readPalette();
 let cards = [];
@@ -42,17 +40,15 @@ let printing = false;
 function measure() {
   const shell = byId("picture");
   size.ratio = printing ? PAPER.ratio : Math.max(1, window.devicePixelRatio || 1);
-  const sought = (printing ? PAPER.height : Math.min(window.innerHeight * 0.6, 720)) / run.size;
-  size.lane = Math.round(Math.max(34, Math.min(96, sought)));
+  layOut(size, state, printing ? PAPER.height : Math.min(window.innerHeight * 0.6, 720));
   size.width = printing ? PAPER.width - Math.max(PAPER.names, byId("lanes").offsetWidth)
     : Math.max(120, Math.floor(shell.clientWidth));
-  size.height = size.top * 2 + size.lane * run.size + (size.lane < ROOMY_LANE ? UNDER_LAST : 0);
   document.documentElement.style.setProperty("--lane-height", size.lane + "px");
   fitCanvas(canvas, size.width, size.height);
   strip.width = Math.max(120, Math.floor(byId("stage").clientWidth));
   strip.height = Math.max(26, Math.min(60, 8 + 3 * run.size));
   fitCanvas(overview, strip.width, strip.height);
-  strip.ground = drawGround(run, palette, strip.width, strip.height, size.ratio);
+  strip.ground = drawGround(run, state.order, palette, strip.width, strip.height, size.ratio);
   if (!printing) return setView(state.view.left, state.view.scale);
   state.view = paperView();
   draw();   // no frame may come before the page is on paper
@@ -70,12 +66,18 @@ function draw() {
   const context = canvas.getContext("2d", { alpha: false });
   context.setTransform(size.ratio, 0, 0, size.ratio, 0, 0);
   const told = drawDiagram(context, run, state, palette, size);
+  showHidden(told.between);
   byId("level").textContent = byId("level").title = (told.drawn < told.all
     ? "1 of " + Math.round(told.all / told.drawn) + " messages drawn. " : "") + (run.cycle !== null
     ? "Refused: a causal cycle" : "Level " + levelOf(state.cut) + ", cut " + state.cut.join(","));
   const small = overview.getContext("2d", { alpha: false });
   small.setTransform(size.ratio, 0, 0, size.ratio, 0, 0);
   drawOverview(small, run, state, palette, strip.ground, strip.width, strip.height, size.width);
+}
+
+function showHidden(between) {
+  const text = hiddenText(run, state, between);
+  if (byId("hidden").textContent !== text) byId("hidden").textContent = text;
 }
 
 // Asks for one drawing at the next frame, however often it is called before.
@@ -105,6 +107,11 @@ function stretch(wanted, column, x) {
 function reveal(column) {
   const x = xOf(state.view, column);
   if (x < 30 || x > size.width - 30) setView(column - size.width / 2 / state.view.scale, state.view.scale);
+}
+
+// A run that would be too narrow as a whole is shown in part first.
+function firstScale() {
+  return fitScale(run, size.width) < 14 ? 26 : 0;
 }
 
 // The columns of the last events in the cut, or of those of the causal cycle.
@@ -178,6 +185,7 @@ function select(p, i) {
   state.cone = p === null || run.cycle !== null ? null : coneOf(run, p, i);
   if (p !== null) {
     state.lane = p;
+    if (state.folded[p]) setLanes(state.order, state.folded.map((is, q) => is && q !== p), p);
     list(p, i);
     reveal(run.columns[p][i]);
     say(eventText(run, p, i));
@@ -208,12 +216,13 @@ function showCut(k) {
 }
 
 function update() {
+  updateView();
   updatePredicates(run, state, cards);
   updateTyped(run, state);
   updateValues(run, state, rows);
   updateEvent(run, state, actions);
   updateListing(run, state, actions);
-  updateLanes();
+  updateHeads(run, state, lanes);
   updateFilm();
   byId("undo").disabled = state.undo.length === 0;
   redraw();
@@ -229,40 +238,52 @@ function say(text) {
 // ---- lanes ------------------------------------------------------------------------------------------------------
 
 function makeLanes() {
-  lanes = run.names.map((name, p) => {
-    const count = element("span", { class: "count" });
-    const lane = element("div", { class: "lane", role: "slider", "aria-label": name, "aria-valuemin": "0",
-      "aria-valuemax": String(run.counts[p]), "aria-orientation": "horizontal", title: name },
-      element("span", { class: "name" }, name), count);
-    lane.addEventListener("focus", () => {
+  const on = {
+    focus: (p) => {
       state.focused = true;
       state.lane = p;
-      updateLanes();
+      updateHeads(run, state, lanes);
       redraw();
-    });
-    lane.addEventListener("blur", () => { state.focused = false; redraw(); });
-    lane.addEventListener("keydown", (event) => laneKey(event, p));
-    byId("lanes").append(lane);
-    return { lane, count };
-  });
+    },
+    blur: () => { state.focused = false; redraw(); },
+    key: laneKey,
+    fold: toggleFold,
+    step: (p, step) => toPlace(p, state.order.indexOf(p) + step),
+    grip: (event, p) => followGrip(event, size, p, (place) => toPlace(p, place)),
+  };
+  lanes = run.names.map((_, p) => makeLane(run, p, on));
+  byId("lanes").append(...lanes.map(({ head }) => head));
 }
 
-function updateLanes() {
-  lanes.forEach(({ lane, count }, p) => {
-    lane.tabIndex = p === state.lane ? 0 : -1;
-    if (run.cycle !== null) {
-      const i = state.selected !== null && state.selected.p === p ? state.selected.i : 0;
-      lane.setAttribute("aria-valuenow", String(i));
-      lane.setAttribute("aria-valuetext", i === 0 ? "no event is selected" : eventText(run, p, i));
-      count.textContent = counted(run.counts[p], "event");
-      return;
-    }
-    const events = state.cut[p];
-    lane.setAttribute("aria-valuenow", String(events));
-    lane.setAttribute("aria-valuetext", events + " of " + run.counts[p] + " events in the cut" +
-      (events === 0 ? "" : "; the last is " + eventText(run, p, events)));
-    count.textContent = events + "/" + run.counts[p];
-  });
+// Gives the lanes another order, and folds some of them. Their heads stand beside what is drawn of them.
+function setLanes(order, folded, lane = state.lane) {
+  Object.assign(state, { order, folded, lane });
+  orderHeads(lanes, order, lane);
+  measure();
+  update();
+}
+
+function toPlace(p, place) {
+  if (place < 0 || place >= run.size || state.order[place] === p) return;
+  setLanes(movedTo(state.order, p, place), state.folded, p);
+  say(run.names[p] + " is lane " + (place + 1) + " of " + run.size + " now.");
+}
+
+function toggleFold(p) {
+  setLanes(state.order, state.folded.map((is, q) => is !== (q === p)), p);
+  say("The lane of " + run.names[p] + " is " + (state.folded[p] ? "folded." : "unfolded."));
+}
+
+// The processes that the shown predicate names, as first lanes.
+function namedFirst() {
+  const { name, refs } = run.predicates[state.shown];
+  setLanes(withFirst(state.order, processesOf(refs)), state.folded);
+  say("The processes that " + name + " names stand first.");
+}
+
+function resetLanes() {
+  setLanes([...run.names.keys()], run.names.map(() => false));
+  say("All lanes are unfolded, in the order of the document.");
 }
 
 function laneKey(event, p) {
@@ -274,10 +295,40 @@ function laneKey(event, p) {
     if (run.counts[p] > 0) select(p, Math.max(1, i));
   } else if (step !== undefined) cutTo(p, within(state.cut[p] + step));
   else if (event.key === "ArrowUp" || event.key === "ArrowDown") {
-    const q = p + (event.key === "ArrowUp" ? -1 : 1);
-    if (q >= 0 && q < run.size) lanes[q].lane.focus();
+    const q = state.order[state.order.indexOf(p) + (event.key === "ArrowUp" ? -1 : 1)];
+    if (q !== undefined) lanes[q].lane.focus();
   } else return;
   event.preventDefault();
+}
+
+// ---- what matters -----------------------------------------------------------------------------------------------
+
+// Shows only what matters to the shown predicate, or all again. The variables that are shown so stand in `onlyFor`.
+let onlyFor = "";
+function setOnly(on) {
+  state.only = on;
+  const wanted = on && state.shown >= 0 ? String(state.shown) : "";
+  if (wanted === onlyFor) return;
+  onlyFor = wanted;
+  if (wanted === "") showAll(run);
+  else showOnly(run, run.predicates[state.shown].refs);
+  strip.ground = drawGround(run, state.order, palette, strip.width, strip.height, size.ratio);
+  state.view = clampView(run, size.width, { left: 0, scale: firstScale() });
+  if (run.cycle === null) revealCut();
+}
+
+function toggleOnly() {
+  setOnly(!state.only);
+  say(run.only === null ? "All events are shown." : "Only what matters to " + run.predicates[state.shown].name +
+    " is shown.");
+  update();
+}
+
+function updateView() {
+  setOnly(state.only);
+  byId("only").setAttribute("aria-pressed", String(run.only !== null));
+  byId("only").disabled = byId("named-first").disabled = state.shown < 0;
+  byId("reset-lanes").disabled = !state.folded.includes(true) && state.order.every((p, place) => p === place);
 }
 
 // ---- the film ---------------------------------------------------------------------------------------------------
@@ -417,167 +468,7 @@ function pageKey(event) {
   event.preventDefault();
 }
 
-// ---- the pointer ------------------------------------------------------------------------------------------------
-
-// Where each finger is, and the pinch of two: the column between them stays between them.
-const fingers = new Map();
-let pinch = null;
-
-function spread() {
-  const [one, other] = [...fingers.values()];
-  return { middle: (one.x + other.x) / 2, apart: Math.max(20, Math.hypot(one.x - other.x, one.y - other.y)) };
-}
-
-function startPinch() {
-  const { middle, apart } = spread();
-  pinch = { column: columnAt(state.view, middle), scale: state.view.scale, apart };
-}
-
-function movePinch() {
-  const { middle, apart } = spread();
-  stretch(pinch.scale * apart / pinch.apart, pinch.column, middle);
-}
-
-function watchPointer() {
-  let drag = null;
-  const place = (event) => {
-    const box = canvas.getBoundingClientRect();
-    return { x: event.clientX - box.left, y: event.clientY - box.top };
-  };
-  // One finger less: what is left of a pinch goes along the run.
-  const lift = (event) => {
-    drag = null;
-    canvas.style.cursor = "";
-    if (!fingers.delete(event.pointerId) || pinch === null) return;
-    if (fingers.size >= 2) return startPinch();
-    pinch = null;
-    const [left] = fingers.values();
-    drag = { x: left.x, left: state.view.left, moved: true };
-  };
-  canvas.addEventListener("pointerdown", (event) => {
-    if (event.button !== 0) return;
-    const { x, y } = place(event);
-    if (event.pointerType === "touch") fingers.set(event.pointerId, { x, y });
-    if (fingers.size >= 2) {
-      drag = null;
-      hideTip();
-      return startPinch();
-    }
-    const grip = gripNear(run, state, size, x, y);
-    hideTip();
-    if (grip !== null && grip.edge) return reveal(run.columns[grip.p][state.cut[grip.p]]);
-    canvas.setPointerCapture(event.pointerId);
-    if (grip !== null) {
-      pause();
-      drag = { p: grip.p, start: state.cut, kept: false };
-    } else drag = { x, left: state.view.left, moved: false };
-  });
-  canvas.addEventListener("pointermove", (event) => {
-    const { x, y } = place(event);
-    if (fingers.has(event.pointerId)) fingers.set(event.pointerId, { x, y });
-    if (pinch !== null) return movePinch();
-    if (drag === null) return hover(x, y);
-    if (drag.start === undefined) {
-      if (Math.abs(x - drag.x) > 4) drag.moved = true;
-      if (drag.moved) setView(drag.left - (x - drag.x) / state.view.scale, state.view.scale);
-      canvas.style.cursor = drag.moved ? "grabbing" : "";
-      return;
-    }
-    const margin = 24;
-    if (x < margin || x > size.width - margin) {
-      setView(state.view.left + (x < margin ? -8 : 8) / state.view.scale, state.view.scale);
-    }
-    const count = countUpTo(run.columns[drag.p], columnAt(state.view, x));
-    const { cut, forced } = moveTo(run, drag.start, drag.p, count);
-    if (String(cut) === String(state.cut)) return;
-    state.lane = drag.p;
-    setCut(cut, { forced, from: drag.start, keep: !drag.kept, text: moveText(run, drag.start, cut, drag.p, forced) });
-    drag.kept = true;
-  });
-  canvas.addEventListener("pointerup", (event) => {
-    if (drag !== null && drag.start === undefined && !drag.moved) click(event, place(event));
-    lift(event);
-  });
-  canvas.addEventListener("pointercancel", lift);
-  canvas.addEventListener("touchmove", (event) => {
-    if (event.touches.length > 1 && event.cancelable) event.preventDefault();   // the page isn't zoomed as well
-  }, { passive: false });
-  canvas.addEventListener("pointerleave", hideTip);
-  canvas.addEventListener("wheel", (event) => {
-    const { x } = place(event);
-    if (event.ctrlKey) {
-      event.preventDefault();
-      return zoom(Math.exp(-event.deltaY * (event.deltaMode === 1 ? 0.05 : 0.0025)), x);
-    }
-    const delta = (Math.abs(event.deltaX) > Math.abs(event.deltaY) ? event.deltaX : event.deltaY) *
-      (event.deltaMode === 1 ? 20 : 1);
-    const { left } = state.view;
-    setView(left + delta / state.view.scale, state.view.scale);
-    if (state.view.left !== left) event.preventDefault();
-  }, { passive: false });
-  let held = false;
-  const pan = (event) => {
-    const box = overview.getBoundingClientRect();
-    const column = (event.clientX - box.left) / (strip.width / (run.lastColumn + 1));
-    setView(column - size.width / 2 / state.view.scale, state.view.scale);
-  };
-  overview.addEventListener("pointerdown", (event) => {
-    held = true;
-    overview.setPointerCapture(event.pointerId);
-    pan(event);
-  });
-  overview.addEventListener("pointermove", (event) => { if (held) pan(event); });
-  overview.addEventListener("pointerup", () => { held = false; });
-}
-
-function click(event, { x, y }) {
-  const near = eventNear(run, state, size, x, y);
-  if (near === null) {
-    if (state.selected !== null) select(null);
-    return;
-  }
-  select(near.p, near.i);
-  if (!event.shiftKey) cutTo(near.p, near.i);
-}
-
-function hover(x, y) {
-  const grip = gripNear(run, state, size, x, y);
-  const near = eventNear(run, state, size, x, y);
-  canvas.style.cursor = grip !== null ? (grip.edge ? "pointer" : "ew-resize") : near !== null ? "pointer" : "grab";
-  if (grip !== null && !grip.edge) return hideTip();
-  if (near !== null) return showTip(eventText(run, near.p, near.i), x, y);
-  const m = state.view.scale >= DOT_SCALE ? messageNear(run, state, size, x, y) : null;
-  if (m === null) return hideTip();
-  const { from, fromEvent, to, toEvent, ids } = run.messages;
-  showTip(ids[m] + ": " + placeText(run, from[m], fromEvent[m]) +
-    (to[m] < 0 ? ", in flight" : " to " + placeText(run, to[m], toEvent[m])), x, y);
-}
-
-function showTip(text, x, y) {
-  const tip = byId("tip");
-  tip.hidden = false;
-  tip.textContent = text;
-  const left = Math.max(4, Math.min(x + 14, size.width - tip.offsetWidth - 4));
-  const below = y + 18;
-  tip.style.left = left + "px";
-  tip.style.top = (below + tip.offsetHeight > size.height ? y - tip.offsetHeight - 12 : below) + "px";
-}
-
-function hideTip() {
-  byId("tip").hidden = true;
-}
-
 // ---- what is taken along ----------------------------------------------------------------------------------------
-
-// What is shown of the run, as a file. The address of the file is given back once it is saved.
-function savePicture() {
-  canvas.toBlob((blob) => {
-    const link = element("a", { href: URL.createObjectURL(blob), download: "run.png" });
-    link.click();
-    setTimeout(() => URL.revokeObjectURL(link.href), 1000);
-    say("The picture is saved as run.png.");
-  });
-}
 
 async function copyText() {
   try {
@@ -602,12 +493,15 @@ function remember() {
 
 function readAddress() {
   const given = readFragment(run, location.hash);
+  state.only = given.only >= 0;
   if (given.view !== null) state.view = given.view;
   if (given.film !== null) openFilm(given.film.k, given.film.step);
   if (given.cut !== null) {
     setCut(given.cut, { from: given.cut, text: given.film !== null ? byId("status").textContent
       : truthText(run, given.cut) + " " + HOW_TO_MOVE });
   }
+  if (state.only) state.shown = given.only;
+  setLanes(given.order, given.folded);
   if (given.selected !== null) {
     state.selected = given.selected;
     state.cone = run.cycle !== null ? null : coneOf(run, given.selected.p, given.selected.i);
@@ -654,8 +548,7 @@ function start() {
     state.cut = state.before = run.counts.slice();
     say("The session is refused: its events make a causal cycle, which is marked.");
   }
-  if (fitScale(run, size.width) < 14) state.view.scale = 26;
-  setView(0, state.view.scale === 1 ? 0 : state.view.scale);
+  setView(0, firstScale());
   state.lane = Math.max(0, state.cut.findIndex((count) => count > 0));
   list(state.lane, state.cut[state.lane]);
   const given = readAddress();
@@ -671,7 +564,11 @@ function start() {
   onClick("zoom-out", () => zoom(1 / 1.5));
   onClick("fit", () => setView(0, 0));
   onClick("to-cut", revealCut);
-  onClick("save-picture", savePicture);
+  onClick("save-picture", () => savePicture(run, state, palette, size, lanes, say));
+  onClick("save-drawing", () => saveDrawing(run, state, palette, size, lanes, say));
+  onClick("only", toggleOnly);
+  onClick("named-first", namedFirst);
+  onClick("reset-lanes", resetLanes);
   onClick("copy-text", copyText);
   onClick("film-play", play);
   onClick("film-back", () => { pause(); toStep(state.film.step - 1); });

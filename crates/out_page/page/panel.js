@@ -176,11 +176,11 @@ function makeCycle(run, actions) {
   const steps = run.cycle.map(({ message, receipt, send, next }) => element("li", {}, at(receipt), " receives ",
     element("code", {}, run.messages.ids[message]), " from ", at(send),
     ...(send.i === next.i ? [""] : [", which comes after ", at(next)])));
-  byId("cycle").append(element("p", {}, "The session is refused: its events make a causal cycle. Going back from each " +
-    "receipt to the send, and along that process to the receipt before it, one comes to the first receipt again:"),
-    element("ol", {}, ...steps), element("p", {}, "So each of these events would have happened before itself. No run " +
-    "is so: the recording has events in a wrong order, or gives a message a wrong id. There is no cut to move, and no " +
-    "predicate is answered."));
+  byId("cycle").append(element("p", {}, "The session is refused: its events make a causal cycle. Going back from " +
+    "each receipt to the send, and along that process to the receipt before it, one comes to the first receipt again:"),
+    element("ol", {}, ...steps), element("p", {}, "So each of these events would have happened before itself. No " +
+    "run is so: the recording has events in a wrong order, or gives a message a wrong id. There is no cut to move, and " +
+    "no predicate is answered."));
 }
 
 // ---- values -----------------------------------------------------------------------------------------------------

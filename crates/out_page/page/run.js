@@ -23,6 +23,10 @@ function readRun(data) {
   run.cycle = data.cycle === undefined ? null : linksOf(run, data.cycle);
   giveClocks(run);
   giveSpans(run);
+  // What is shown: all events, or of these only some, closed up (`showOnly`).
+  run.whole = { columns: run.columns, lastColumn: run.lastColumn, spans: run.spans, only: null,
+                shown: run.columns.map((columns) => ({ events: null, columns })) };
+  Object.assign(run, run.whole);
   // Of a run that is refused no predicate is answered.
   run.predicates = run.cycle !== null ? [] : data.predicates.map((tree, k) => {
     const node = readPredicate(tree, names, run.vars);
@@ -128,7 +132,8 @@ function giveClocks(run) {
       while (done[p] < counts[p]) {
         const i = done[p] + 1;
         const m = messageAt[p][i];
-        const from = m >= 0 && messages.to[m] === p && messages.toEvent[m] === i && !loose.has(m) ? messages.from[m] : -1;
+        const isReceipt = m >= 0 && messages.to[m] === p && messages.toEvent[m] === i && !loose.has(m);
+        const from = isReceipt ? messages.from[m] : -1;
         if (from >= 0 && done[from] < messages.fromEvent[m]) break;
         const base = i * size;
         clocks.copyWithin(base, base - size, base);
@@ -191,17 +196,18 @@ function messageEnd(run, m) {
   return to < 0 ? messageStart(run, m) + 1 : run.columns[to][run.messages.toEvent[m]];
 }
 
-// The messages of which a part lies between these columns.
+// The messages of which a part lies between these columns, and which are shown.
 function messagesBetween(run, left, right) {
   const { order, reach } = run.spans;
   const found = [];
   for (let block = 0; block < reach.length; block++) {
     const first = block * SPAN_BLOCK;
-    if (messageStart(run, order[first]) > right) break;
+    if (Math.floor(messageStart(run, order[first])) > right) break;
     if (reach[block] < left) continue;
     const end = Math.min(order.length, first + SPAN_BLOCK);
     for (let k = first; k < end; k++) {
       const m = order[k];
+      if (run.only !== null && run.only.kept[m] === 0) continue;
       if (messageStart(run, m) > right) break;
       if (messageEnd(run, m) >= left) found.push(m);
     }
@@ -568,18 +574,37 @@ function find(run, query) {
 
 // Hits by column and process.
 function inOrder(run, hits) {
-  return [...hits.values()].sort((a, b) => run.columns[a.p][a.i] - run.columns[b.p][b.i] || a.p - b.p);
+  const { columns } = run.whole;
+  return [...hits.values()].sort((a, b) => columns[a.p][a.i] - columns[b.p][b.i] || a.p - b.p);
 }
 
 // ---- the address ------------------------------------------------------------------------------------------------
 
-// cut=2,0,2&view=LEFT,SCALE&event=NAME.I&film=NAME.STEP, where LEFT is a column and SCALE the pixels of one.
+// cut=2,0,2&view=LEFT,SCALE&event=NAME.I&film=NAME.STEP, where LEFT is a column and SCALE the pixels of one; for a view
+// of what matters only=NAME, of a predicate; for lanes that are moved or folded lanes=2,0,1 and folded=0,1.
 function fragmentOf(run, state) {
   const parts = run.cycle === null ? ["cut=" + state.cut.join(",")] : [];
   parts.push("view=" + Number(state.view.left.toFixed(2)) + "," + Number(state.view.scale.toPrecision(5)));
   if (state.selected !== null) parts.push("event=" + run.names[state.selected.p] + "." + state.selected.i);
   if (state.film !== null) parts.push("film=" + run.predicates[state.film.k].name + "." + state.film.step);
+  if (run.only !== null) parts.push("only=" + run.predicates[state.shown].name);
+  if (state.order.some((p, place) => p !== place)) parts.push("lanes=" + state.order.join(","));
+  const folded = state.order.filter((p) => state.folded[p]).sort((p, q) => p - q);
+  if (folded.length > 0) parts.push("folded=" + folded.join(","));
   return parts.join("&");
+}
+
+function numbersOf(text) {
+  return /^\d+(,\d+)*$/.test(text ?? "") ? text.split(",").map(Number) : [];
+}
+
+// Of a fragment the predicate of a view of what matters, the order of the lanes, and which of them are folded.
+function readLanes(run, { only, lanes, folded }) {
+  const order = numbersOf(lanes);
+  const isOrder = order.length === run.size && run.names.every((_, p) => order.includes(p));
+  const shut = numbersOf(folded);
+  return { only: run.predicates.findIndex(({ name }) => name === only),
+           order: isOrder ? order : [...run.names.keys()], folded: run.names.map((_, p) => shut.includes(p)) };
 }
 
 // What a fragment says, of it only what this run has.
@@ -588,8 +613,8 @@ function readFragment(run, fragment) {
     const equals = part.indexOf("=");
     return [part.slice(0, equals), part.slice(equals + 1)];
   }));
-  const said = { cut: null, view: null, selected: null, film: null };
-  const counts = /^\d+(,\d+)*$/.test(given.cut ?? "") ? given.cut.split(",").map(Number) : [];
+  const said = { cut: null, view: null, selected: null, film: null, ...readLanes(run, given) };
+  const counts = numbersOf(given.cut);
   if (run.cycle === null && isCut(run, counts) && isConsistent(run, counts)) said.cut = counts;
   const [left, scale] = (given.view ?? "").split(",").map(Number);
   if (Number.isFinite(left) && scale > 0 && scale < 1e4) said.view = { left, scale };

@@ -1,7 +1,7 @@
 "use strict";
-// Tests of run.js and predicate.js: against all cuts of small runs, against judge, check and explore of the program, and
-// on cases by hand. `MONITOR=PROGRAM EXAMPLES=FOLDER node --test run.test.js`; what needs the program is left out
-// without it.
+// Tests of the scripts that need no page: against all cuts of small runs, against judge, check and explore of the
+// program, and on cases by hand. `MONITOR=PROGRAM EXAMPLES=FOLDER node --test run.test.js`; what needs the program is
+// left out without it.
 const { test } = require("node:test");
 const assert = require("node:assert");
 const { spawnSync } = require("node:child_process");
@@ -10,6 +10,9 @@ const os = require("node:os");
 const path = require("node:path");
 const script = require("./run.js");
 const { parsePredicate, typedPredicate } = require("./predicate.js");
+const { showOnly, showAll, eventAt } = require("./matter.js");
+const { layOut, laneY, laneAt, placeAt, movedTo, withFirst } = require("./lanes.js");
+const { escaped, paintOf } = require("./picture.js");
 const { readRun, isConsistent, moveTo, valueAt, reader, readPredicate, isTrue, deciding, stepsOf, cutAtStep, find,
         fragmentOf, readFragment, coneOf, messagesBetween, sentBy, levelOf, lineOf, sourceOf,
         verdictOf, verdictText } = script;
@@ -261,6 +264,101 @@ test("columns stand right of all that happened before, and the messages in view 
   }
 });
 
+// Which events with a flag are before which, by the order along each process and these messages alone.
+function orderOf(run, flags, messages) {
+  const { from, fromEvent, to, toEvent } = run.messages;
+  const pasts = run.counts.map((count) => Array.from({ length: count + 1 }, () => new Set()));
+  const places = run.counts.flatMap((count, p) => Array.from({ length: count }, (_, i) => ({ p, i: i + 1 })));
+  places.sort((a, b) => run.whole.columns[a.p][a.i] - run.whole.columns[b.p][b.i]);
+  for (const { p, i } of places) {
+    const take = (q, j) => {
+      for (const each of pasts[q][j]) pasts[p][i].add(each);
+      if (flags[q][j] === 1) pasts[p][i].add(q + "#" + j);
+    };
+    take(p, i - 1);
+    messages.filter((m) => to[m] === p && toEvent[m] === i).forEach((m) => take(from[m], fromEvent[m]));
+  }
+  return places.filter(({ p, i }) => flags[p][i] === 1).map(({ p, i }) => [p, i, ...[...pasts[p][i]].sort()].join());
+}
+
+test("what matters are the events that set what is named, in the order that they had", () => {
+  let [events, messages, dropped] = [0, 0, 0];
+  for (let seed = 1; seed <= 80; seed++) {
+    const chance = random(seed);
+    const run = readRun(dataOf(session(chance, 2 + chance(4), 80, seed % 2 === 0), []));
+    const all = [...run.messages.ids.keys()];
+    const refs = run.names.map((_, p) => [p, 0]).filter(() => chance(2) === 0);
+    showOnly(run, refs);
+    const { flags, kept } = run.only;
+    const sets = (p, i) => refs.some(([q, v]) => p === q && run.vars[p][v].at.includes(i));
+    flags.forEach((list, p) => list.forEach((is, i) => assert.equal(is === 1, i > 0 && sets(p, i))));
+    assert.deepEqual(orderOf(run, flags, all.filter((m) => kept[m] === 1)), orderOf(run, flags, all));
+    events += run.only.events;
+    messages += run.only.messages;
+    dropped += all.length - run.only.messages;
+  }
+  assert.ok(messages > 300 && dropped > 300, messages + " and " + dropped);
+  console.log(`  ${events} events, ${messages} messages kept, ${dropped} hidden`);
+});
+
+test("a run that is closed up has its shown events, messages and cuts in their order, and is opened again", () => {
+  for (let seed = 1; seed <= 40; seed++) {
+    const chance = random(seed);
+    const run = readRun(dataOf(session(chance, 2 + chance(4), 120, seed % 2 === 0), []));
+    const { columns } = run;
+    showOnly(run, [[0, 0], [1, 0]]);
+    const { from, fromEvent, to, toEvent } = run.messages;
+    const kept = [...run.messages.ids.keys()].filter((m) => run.only.kept[m] === 1);
+    for (const m of kept) assert.ok(run.columns[from[m]][fromEvent[m]] < run.columns[to[m]][toEvent[m]]);
+    run.shown.forEach((shown, p) => {
+      let before = 0;
+      for (let k = 1; k < shown.columns.length; k++) {
+        assert.equal(shown.columns[k], run.columns[p][eventAt(shown, k)]);
+        assert.ok(Number.isInteger(shown.columns[k]) && shown.columns[k] > shown.columns[k - 1]);
+        // A cut crosses the lane left of each shown event that it hasn't, and right of each that it has.
+        for (let i = before; i < eventAt(shown, k); i++) assert.ok(run.columns[p][i] + 0.5 < shown.columns[k]);
+        before = eventAt(shown, k);
+      }
+      for (let i = 1; i <= run.counts[p]; i++) assert.ok(run.columns[p][i] >= run.columns[p][i - 1]);
+    });
+    for (let k = 0; k < 20; k++) {
+      const [left, right] = [chance(run.lastColumn + 1), chance(run.lastColumn + 1)].sort((a, b) => a - b);
+      const wanted = kept.filter((m) => run.columns[from[m]][fromEvent[m]] <= right &&
+                                        run.columns[to[m]][toEvent[m]] >= left);
+      assert.deepEqual(messagesBetween(run, left, right).sort((a, b) => a - b), wanted);
+    }
+    showAll(run);
+    assert.ok(run.columns === columns && run.only === null);
+  }
+});
+
+test("lanes are moved and folded", () => {
+  assert.deepEqual(movedTo([0, 1, 2, 3], 3, 1), [0, 3, 1, 2]);
+  assert.deepEqual(movedTo([0, 1, 2, 3], 0, 3), [1, 2, 3, 0]);
+  assert.deepEqual(withFirst([3, 1, 0, 2], new Set([0, 3])), [3, 0, 1, 2]);
+  const size = { top: 0 };
+  layOut(size, { order: [2, 0, 1], folded: [false, true, false] }, 180);
+  assert.deepEqual([size.heights, size.tops, size.height], [[80, 20, 80], [80, 160, 0], 190]);
+  assert.deepEqual([0, 79, 80, 160, 179, 180].map((y) => laneAt(size, y)), [2, 2, 0, 1, 1, -1]);
+  for (const p of [0, 1, 2]) assert.equal(placeAt(size, p, laneY(size, p)), size.order.indexOf(p), "it stays");
+  assert.deepEqual([-9, 49, 51, 129, 131, 999].map((y) => placeAt(size, 1, y)), [0, 0, 1, 1, 2, 2]);
+  for (const y of [30, 41, 100, 130]) {
+    const order = movedTo(size.order, 1, placeAt(size, 1, y));
+    const moved = { top: 0 };
+    layOut(moved, { order, folded: size.folded }, 180);
+    assert.equal(placeAt(moved, 1, y), placeAt(size, 1, y), "and doesn't go to and fro");
+  }
+  layOut(size, { order: [0, 1], folded: [true, true] }, 180);
+  assert.equal(size.height, 50);
+});
+
+test("texts and colours of a drawing are what SVG takes", () => {
+  assert.equal(escaped("<a b=\"1\" c='2'>&\u0000\ud800😀"), "&lt;a b=&quot;1&quot; c=&#39;2&#39;&gt;&amp;??😀");
+  assert.equal(paintOf("fill", "#d55e00"), " fill=\"#d55e00\"");
+  assert.equal(paintOf("stroke", "#d55e0080"), " stroke=\"#d55e00\" stroke-opacity=\"0.5\"");
+  assert.equal(paintOf("fill", "url(#hatch)"), " fill=\"url(#hatch)\"");
+});
+
 test("values are what the last event of the process gave", () => {
   for (let seed = 1; seed <= 40; seed++) {
     const chance = random(seed);
@@ -483,13 +581,18 @@ test("finding, and the address", () => {
   assert.equal(places("2"), "a2 b2");
   assert.equal(places("z = 1"), "");
   assert.equal(places("  "), "");
-  const state = { cut: [2, 1], view: { left: 0.25, scale: 40 }, selected: { p: 1, i: 2 }, film: null };
+  const plain = { only: -1, order: [0, 1], folded: [false, false] };
+  const state = { ...plain, cut: [2, 1], view: { left: 0.25, scale: 40 }, selected: { p: 1, i: 2 }, film: null };
   assert.equal(fragmentOf(run, state), "cut=2,1&view=0.25,40&event=b.2");
   assert.deepEqual(readFragment(run, "#" + fragmentOf(run, state)), state);
   assert.equal(readFragment(run, "#cut=0,1").cut, null, "an inconsistent cut isn't taken");
+  const moved = { ...state, only: 0, order: [1, 0], folded: [true, false], shown: 0 };
+  showOnly(run, run.predicates[0].refs);
+  assert.equal(fragmentOf(run, moved), "cut=2,1&view=0.25,40&event=b.2&only=q0&lanes=1,0&folded=0");
+  assert.deepEqual({ ...readFragment(run, fragmentOf(run, moved)), shown: 0 }, moved);
   for (const bad of ["", "#", "#cut=", "#cut=9,9", "#cut=1", "#cut=-1,0", "#event=b.9&film=q0.1&view=a,b",
-                     "#view=0,-1", "#%%%"]) {
-    assert.deepEqual(readFragment(run, bad), { cut: null, view: null, selected: null, film: null });
+                     "#view=0,-1", "#%%%", "#only=z&lanes=0,0&folded=7", "#lanes=0,1,1", "#lanes=1"]) {
+    assert.deepEqual(readFragment(run, bad), { ...plain, cut: null, view: null, selected: null, film: null });
   }
 });
 

@@ -10,8 +10,12 @@ use Rattle.out_page.specs.AnswerData.{Outcome, outcome_text}
 use Rattle.out_page.specs.SourceData.{Source, source_text}
 use Rattle.out_page.specs.declared.text_before.TheConstants.{BEFORE}
 use Rattle.out_page.specs.declared.text_diagram.TheConstants.{DIAGRAM}
+use Rattle.out_page.specs.declared.text_lanes.TheConstants.{LANES}
 use Rattle.out_page.specs.declared.text_main.TheConstants.{MAIN}
+use Rattle.out_page.specs.declared.text_matter.TheConstants.{MATTER}
 use Rattle.out_page.specs.declared.text_panel.TheConstants.{PANEL}
+use Rattle.out_page.specs.declared.text_picture.TheConstants.{PICTURE}
+use Rattle.out_page.specs.declared.text_pointer.TheConstants.{POINTER}
 use Rattle.out_page.specs.declared.text_predicate.TheConstants.{PREDICATE}
 use Rattle.out_page.specs.declared.text_run.TheConstants.{RUN}
 
@@ -66,18 +70,32 @@ text_run = RUN.now
 unfoldable pub text_predicate : List ℕ
 text_predicate = PREDICATE.now
 
+unfoldable pub text_matter : List ℕ
+text_matter = MATTER.now
+
+unfoldable pub text_lanes : List ℕ
+text_lanes = LANES.now
+
 unfoldable pub text_diagram : List ℕ
 text_diagram = DIAGRAM.now
 
+unfoldable pub text_picture : List ℕ
+text_picture = PICTURE.now
+
 unfoldable pub text_panel : List ℕ
 text_panel = PANEL.now
+
+unfoldable pub text_pointer : List ℕ
+text_pointer = POINTER.now
 
 unfoldable pub text_main : List ℕ
 text_main = MAIN.now
 
 -- the page's text after its data
 unfoldable pub text_after : List ℕ
-text_after = text_run ++ text_predicate ++ text_diagram ++ text_panel ++ text_main
+text_after =
+    text_run ++ text_predicate ++ text_matter ++ text_lanes ++ text_diagram ++ text_picture ++ text_panel
+    ++ text_pointer ++ text_main
 
 unfoldable pub page_text : Document → List Source → Computation → List (Place × Place) → Outcome → List ℕ
 page_text document sources events messages outcome =

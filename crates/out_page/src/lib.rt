@@ -7,7 +7,8 @@
 //! id is.
 //!
 //! - `text_before`: the page's text before its data
-//! - `text_run`, `text_predicate`, `text_diagram`, `text_panel`, `text_main`: the texts after its data, one a script
+//! - `text_run`, `text_predicate`, `text_matter`, `text_lanes`, `text_diagram`, `text_picture`, `text_panel`,
+//!   `text_pointer`, `text_main`: the texts after its data, one a script
 //! - `json_texts`: texts of JSON
 //! - `predicate_data`: a predicate's tree
 //! - `event_data`: processes, variables, events and messages
@@ -30,8 +31,12 @@ mod source;
 mod source_data;
 mod text_before;
 mod text_diagram;
+mod text_lanes;
 mod text_main;
+mod text_matter;
 mod text_panel;
+mod text_picture;
+mod text_pointer;
 mod text_predicate;
 mod text_run;
 

@@ -1,6 +1,6 @@
 //! A page's text, also written.
 ghost use Rattle.pd_match.specs.Views.{pairs_view};
-ghost use Rattle.out_page.specs.Pages.{page_text, text_after, text_before, text_diagram, text_main, text_panel, text_predicate, text_run};
+ghost use Rattle.out_page.specs.Pages.{page_text, text_after, text_before, text_diagram, text_lanes, text_main, text_matter, text_panel, text_picture, text_pointer, text_predicate, text_run};
 ghost use Rattle.out_page.specs.Views.{outcome_view, sources_view};
 ghost use Rattle.pd_spec.specs.Views.{document_view};
 ghost use Rattle.read_traces.specs.Views.{computation_view};
@@ -11,8 +11,12 @@ use super::Content;
 use super::page_data::push_data;
 use super::text_before::BEFORE;
 use super::text_diagram::DIAGRAM;
+use super::text_lanes::LANES;
 use super::text_main::MAIN;
+use super::text_matter::MATTER;
 use super::text_panel::PANEL;
+use super::text_picture::PICTURE;
+use super::text_pointer::POINTER;
 use super::text_predicate::PREDICATE;
 use super::text_run::RUN;
 use pd_report::{WriteFault, push_bytes, write_all};
@@ -43,6 +47,22 @@ fn text_predicate() -> &'static [u8]
     PREDICATE
 }
 
+/// The text with the script that finds what matters to a predicate.
+#[tactic(auto, unfolding(crate::specs::Pages::text_matter))]
+fn text_matter() -> &'static [u8]
+    ensures { result.now ≡ text_matter }
+{
+    MATTER
+}
+
+/// The text with the script that orders and folds the lanes.
+#[tactic(auto, unfolding(crate::specs::Pages::text_lanes))]
+fn text_lanes() -> &'static [u8]
+    ensures { result.now ≡ text_lanes }
+{
+    LANES
+}
+
 /// The text with the script that draws the run.
 #[tactic(auto, unfolding(crate::specs::Pages::text_diagram))]
 fn text_diagram() -> &'static [u8]
@@ -51,12 +71,28 @@ fn text_diagram() -> &'static [u8]
     DIAGRAM
 }
 
+/// The text with the script that saves what is drawn.
+#[tactic(auto, unfolding(crate::specs::Pages::text_picture))]
+fn text_picture() -> &'static [u8]
+    ensures { result.now ≡ text_picture }
+{
+    PICTURE
+}
+
 /// The text with the script that shows what stands beside the run.
 #[tactic(auto, unfolding(crate::specs::Pages::text_panel))]
 fn text_panel() -> &'static [u8]
     ensures { result.now ≡ text_panel }
 {
     PANEL
+}
+
+/// The text with the script that follows the pointer.
+#[tactic(auto, unfolding(crate::specs::Pages::text_pointer))]
+fn text_pointer() -> &'static [u8]
+    ensures { result.now ≡ text_pointer }
+{
+    POINTER
 }
 
 /// The text with the script that starts the page, and the page's end.
@@ -74,8 +110,12 @@ fn push_after(out: &mut Vec<u8>) -> Result<(), AllocError>
 {
     push_bytes(out, text_run())?;
     push_bytes(out, text_predicate())?;
+    push_bytes(out, text_matter())?;
+    push_bytes(out, text_lanes())?;
     push_bytes(out, text_diagram())?;
+    push_bytes(out, text_picture())?;
     push_bytes(out, text_panel())?;
+    push_bytes(out, text_pointer())?;
     push_bytes(out, text_main())
 }
 

@@ -6,11 +6,13 @@ pub(crate) const BEFORE: &[u8] = b"\
     <html lang=\"en\">\n\
     <head>\n\
     <meta charset=\"utf-8\">\n\
-    <meta http-equiv=\"Content-Security-Policy\" content=\"default-src 'none'; script-src 'sha256-scr185uJJHz4km6\
-    gqNUeosctzuhA/gEyrsFaXOKF79I=' 'sha256-ELJWnDhlCBUfJorKQZ+GL05onk7yAn/f9SXOR3si6vE=' 'sha256-jFJT/wKmICUzeryp\
-    baDyJxlmOpy+zPesUZXWwCDwgdY=' 'sha256-Mq0MBf1W0m1Hqgq5COBxyrGDaxRBnZB5ciQpPwZfjXY=' 'sha256-MWQu57c/1kW3iJa57\
-    keaaqSAoH5cr0e5/LEu+lfX2KA='; style-src 'sha256-da167k3R0/IC0gSw5Lt2U7dWgKXjf7dybi4foOJhsPA='; base-uri 'none\
-    '; form-action 'none'\">\n\
+    <meta http-equiv=\"Content-Security-Policy\" content=\"default-src 'none'; script-src 'sha256-/7ZSzQPjyvwfTvG\
+    PEKDPzJPK33RZswDK4ZR/UbWWfxM=' 'sha256-ELJWnDhlCBUfJorKQZ+GL05onk7yAn/f9SXOR3si6vE=' 'sha256-FZ+DN4R4KHAP5VP7\
+    EIRs1WDuhV1nHYxKFyFly0xbMQI=' 'sha256-NWF6JYBrxukP/TcjhZGwJhuWkq7QZEcq/QWI2Co8yFw=' 'sha256-U6JOrzbivCObTlf+n\
+    RcZSvT+w3jhGzxNfnT/BdAbgKQ=' 'sha256-HqxlbZl78GpXKd4mSN2MtpXZ7KhJK2twx3NL6UMeCWk=' 'sha256-oeNDvvxypDwI+9LsII\
+    FkdWne3kf1Vt0/IAci60CvRHU=' 'sha256-9WQV6+OqwwLDRAXIZSknHwQoftlpCDaCXd8wNVtZJIk=' 'sha256-hQWHZmjbpiu0GBCMzmK\
+    oB1kQGszIwgfExxw9TUlJiUI='; style-src 'sha256-PyBx3UNMBly6LTu1M2/QmDDTkWuHrC0SB4u8PMoSMzg='; base-uri 'none';\
+    \x20form-action 'none'\">\n\
     <meta name=\"viewport\" content=\"width=device-width, initial-scale=1\">\n\
     <meta name=\"referrer\" content=\"no-referrer\">\n\
     <meta name=\"color-scheme\" content=\"light dark\">\n\
@@ -124,14 +126,31 @@ pub(crate) const BEFORE: &[u8] = b"\
     #level { flex: 1 1 120px; min-width: 0; color: var(--muted); font-variant-numeric: tabular-nums; overflow: hi\
     dden;\n\
     \x20 text-overflow: ellipsis; white-space: nowrap; }\n\
+    #hidden { flex: 1 1 260px; color: var(--muted); font-size: 12.5px; }\n\
+    #hidden:empty { display: none; }\n\
+    [aria-pressed=\"true\"]:not(.plain) {\n\
+    \x20 border-color: var(--cut-text); color: var(--cut-text); background: var(--can-ground);\n\
+    }\n\
     #stage { display: flex; border-bottom: 0; padding: 8px 0; }\n\
     #stage.last { border-bottom: 1px solid var(--line); border-radius: 0 0 10px 10px; }\n\
     #lanes { flex: none; min-width: 138px; max-width: 260px; }\n\
+    .head { height: var(--lane-height); display: flex; align-items: center; }\n\
     .lane {\n\
-    \x20 height: var(--lane-height); display: flex; flex-direction: column; justify-content: center; align-items:\
-    \x20flex-end;\n\
-    \x20 padding: 0 12px 0 10px; line-height: 1.25; cursor: default; border-radius: 6px;\n\
+    \x20 height: 100%; display: flex; flex-direction: column; justify-content: center; align-items: flex-end; fle\
+    x: 1;\n\
+    \x20 min-width: 0; padding: 0 12px 0 4px; line-height: 1.25; cursor: default; border-radius: 6px;\n\
     }\n\
+    .controls { flex: none; display: flex; padding-left: 4px; }\n\
+    .controls button { min-height: 0; width: 20px; height: 24px; padding: 0; border: 0; background: none;\n\
+    \x20 color: var(--muted); line-height: 1; }\n\
+    .controls button:hover, .moving .controls button { color: var(--ink); }\n\
+    .handle { cursor: grab; touch-action: none; }\n\
+    .moving, .moving .handle { cursor: grabbing; }\n\
+    .head.folded { height: 20px; }\n\
+    .folded .controls button { height: 20px; }\n\
+    .folded .lane { flex-direction: row; align-items: center; justify-content: flex-end; }\n\
+    .folded .lane .name { font-weight: 400; font-size: 11px; color: var(--muted); }\n\
+    .folded .count { display: none; }\n\
     .lane:focus-visible { outline-offset: -3px; background: var(--band); }\n\
     .lane .name { font-weight: 600; max-width: 100%; overflow: hidden; text-overflow: ellipsis; white-space: nowr\
     ap; }\n\
@@ -240,6 +259,8 @@ pub(crate) const BEFORE: &[u8] = b"\
     ent;\n\
     \x20 border-right: 0; border-left: 9px solid var(--forced); }\n\
     .sign.flight { border-top: 2px dashed var(--message); }\n\
+    .sign.gap { height: 0; border-top: 1px dashed var(--muted); vertical-align: 4px; }\n\
+    .key { font-size: 16px; padding: 0 3px; }\n\
     .sign.past { background: var(--past); }\n\
     .sign.future { background: repeating-linear-gradient(135deg, var(--future-line) 0 2px, var(--future) 2px 5px)\
     ; }\n\
@@ -259,18 +280,25 @@ pub(crate) const BEFORE: &[u8] = b"\
     \x20 #find { order: 2; flex: 1 0 100%; }\n\
     \x20 #query { flex: 1; width: auto; min-width: 0; }\n\
     \x20 #matches { max-width: 40vw; }\n\
-    \x20 #lanes { min-width: 86px; max-width: 86px; }\n\
-    \x20 .lane { padding: 0 8px 0 6px; }\n\
+    \x20 #lanes { min-width: 96px; max-width: 96px; }\n\
+    \x20 .lane { padding: 0 6px 0 2px; }\n\
+    \x20 .controls { flex-direction: column; padding-left: 0; }\n\
+    \x20 .controls button { width: 24px; height: min(24px, var(--lane-height) / 2); }\n\
+    \x20 .folded .controls { flex-direction: row; }\n\
+    \x20 .folded .controls button { width: 16px; }\n\
     \x20 .lane .name { white-space: normal; overflow-wrap: anywhere; text-align: right; font-size: 12px; line-hei\
     ght: 1.15;\n\
     \x20   max-height: 2.3em; }\n\
-    \x20 #level { order: 3; flex-basis: 100%; }\n\
+    \x20 #level, #hidden { order: 3; flex-basis: 100%; }\n\
+    \x20 .of-zoom, .of-view { order: 2; }\n\
+    \x20 .of-view { flex-wrap: wrap; }\n\
     }\n\
     @media print {\n\
     \x20 @page { size: landscape; margin: 12mm; }\n\
     \x20 html { background: #fff; font-size: 11px; }\n\
     \x20 body { padding: 0; max-width: none; }\n\
-    \x20 header form, #help-button, .bar .group, #film, .card, #overview, #status, button:not(.plain), .pager {\n\
+    \x20 header form, #help-button, .bar .group, .controls, #film, .card, #overview, #status, button:not(.plain),\
+    \x20.pager {\n\
     \x20   display: none !important;\n\
     \x20 }\n\
     \x20 main { display: block; }\n\
@@ -314,7 +342,7 @@ pub(crate) const BEFORE: &[u8] = b"\
     \x20       <button type=\"button\" id=\"undo\" title=\"the cut before this one (u)\">Undo</button>\n\
     \x20     </div>\n\
     \x20     <p id=\"level\"></p>\n\
-    \x20     <div class=\"group\">\n\
+    \x20     <div class=\"group of-zoom\">\n\
     \x20       <button type=\"button\" id=\"zoom-out\" aria-label=\"Zoom out\" title=\"zoom out (-)\">\xe2\x88\x92\
     </button>\n\
     \x20       <button type=\"button\" id=\"zoom-in\" aria-label=\"Zoom in\" title=\"zoom in (+)\">+</button>\n\
@@ -325,9 +353,20 @@ pub(crate) const BEFORE: &[u8] = b"\
     \x20     <div class=\"group\">\n\
     \x20       <button type=\"button\" id=\"save-picture\" title=\"save what is shown as a picture\">PNG</button>\
     \n\
+    \x20       <button type=\"button\" id=\"save-drawing\" title=\"save what is shown as a drawing, of lines and \
+    texts\">SVG</button>\n\
     \x20       <button type=\"button\" id=\"copy-text\" class=\"of-cuts\" title=\"copy the verdict, the cut, its \
     values\">Copy</button>\n\
     \x20     </div>\n\
+    \x20     <div class=\"group of-view\">\n\
+    \x20       <button type=\"button\" id=\"only\" class=\"of-cuts\" aria-pressed=\"false\" title=\"hide the even\
+    ts that set nothing the shown predicate names\">Only what matters</button>\n\
+    \x20       <button type=\"button\" id=\"named-first\" class=\"of-cuts\" title=\"put the processes that the sh\
+    own predicate names on the first lanes\">Named first</button>\n\
+    \x20       <button type=\"button\" id=\"reset-lanes\" title=\"all lanes unfolded, in the document's order\">R\
+    eset lanes</button>\n\
+    \x20     </div>\n\
+    \x20     <p id=\"hidden\"></p>\n\
     \x20   </div>\n\
     \x20   <div id=\"stage\">\n\
     \x20     <div id=\"lanes\" role=\"group\" aria-label=\"The cut: how many events of each process it has\"></di\
@@ -426,6 +465,9 @@ pub(crate) const BEFORE: &[u8] = b"\
     \x20run, to the cut</td></tr>\n\
     \x20     <tr><th scope=\"row\"><kbd>/</kbd> <kbd>n</kbd> <kbd>p</kbd></th><td>find, next, previous</td></tr>\n\
     \x20     <tr><th scope=\"row\"><kbd>Space</kbd></th><td>the film: play and pause</td></tr>\n\
+    \x20     <tr><th scope=\"row\"><span class=\"key\">\xe2\xa0\xbf</span> <span class=\"key\">\xe2\x96\xbe</span\
+    ></th><td>move a lane: drag it, or <kbd>\xe2\x86\x91</kbd> and <kbd>\xe2\x86\x93</kbd>; fold it to a thin lin\
+    e, with stubs of its messages to other lanes</td></tr>\n\
     \x20     <tr><th scope=\"row\"><kbd>u</kbd> <kbd>Esc</kbd></th><td>the cut before, selection and film away</t\
     d></tr>\n\
     \x20     <tr><th scope=\"row\">Pointer</th><td>click an event: the cut moves there; with <kbd>Shift</kbd> it \
@@ -433,9 +475,13 @@ pub(crate) const BEFORE: &[u8] = b"\
     rl</kbd> the wheel zooms, and so do two fingers</td></tr>\n\
     \x20   </tbody>\n\
     \x20 </table>\n\
+    \x20 <p class=\"hint\"><strong>Only what matters</strong> hides the events that set no variable which the sho\
+    wn predicate names, and the messages without which those that do have the same order; small dots are ends of \
+    messages that stay, and a dashed line hides as many events as its number says.</p>\n\
     \x20 <ul class=\"signs\">\n\
     \x20   <li><span class=\"sign dot\"></span> has happened at the cut</li>\n\
     \x20   <li><span class=\"sign ring\"></span> has not happened</li>\n\
+    \x20   <li><span class=\"sign gap\"></span> hidden events</li>\n\
     \x20   <li><span class=\"sign cut\"></span> the cut</li>\n\
     \x20   <li><span class=\"sign past\"></span> before the selected event</li>\n\
     \x20   <li><span class=\"sign future\"></span> after it; what is left bright is concurrent</li>\n\

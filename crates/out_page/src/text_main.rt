@@ -4,7 +4,7 @@
 pub(crate) const MAIN: &[u8] = b"\
     <script>\n\
     \"use strict\";\n\
-    // The page: its state, and what keys, pointer and buttons do to it.\n\
+    // The page: its state, and what keys and buttons do to it.\n\
     \n\
     const FILM_SPEEDS = [1, 2, 4, 10, 30, 100, 300, 1000];\n\
     const UNDO_LIMIT = 200;\n\
@@ -14,9 +14,6 @@ pub(crate) const MAIN: &[u8] = b"\
     umn has if\n\
     // not, and how fine a pixel is.\n\
     const PAPER = { width: 958, names: 138, height: 400, whole: 9, scale: 26, ratio: 3 };\n\
-    // Below the last one of narrow lanes its numbers have some pixels more.\n\
-    const ROOMY_LANE = 48;\n\
-    const UNDER_LAST = 10;\n\
     const HOW_TO_MOVE = \"Move it: click an event, drag a grip, or use the arrow keys on a lane.\";\n\
     \n\
     window.addEventListener(\"error\", (event) => { byId(\"status\").textContent = \"The page failed: \" + event.\
@@ -30,11 +27,13 @@ pub(crate) const MAIN: &[u8] = b"\
     \x20 lane: 0, focused: false, selected: null, cone: null, shown: -1, typed: null, film: null, query: \"\", hi\
     ts: [], hit: -1,\n\
     \x20 view: { left: 0, scale: 1 }, listing: { p: 0, first: 1 },\n\
+    \x20 order: [...run.names.keys()], folded: run.names.map(() => false), only: false,\n\
     };\n\
     const actions = { show, showCut, playFilm, select, cutTo, unselect: () => select(null) };\n\
     const canvas = byId(\"diagram\");\n\
     const overview = byId(\"overview\");\n\
-    const size = { width: 0, height: 0, top: 0, lane: 0, ratio: 1 };\n\
+    const size = { width: 0, height: 0, top: 0, lane: 0, ratio: 1, order: [], folded: [], heights: [], tops: [] }\
+    ;\n\
     const strip = { width: 0, height: 0, ground: null };\n\
     let palette = readPalette();\n\
     let cards = [];\n\
@@ -52,17 +51,15 @@ pub(crate) const MAIN: &[u8] = b"\
     function measure() {\n\
     \x20 const shell = byId(\"picture\");\n\
     \x20 size.ratio = printing ? PAPER.ratio : Math.max(1, window.devicePixelRatio || 1);\n\
-    \x20 const sought = (printing ? PAPER.height : Math.min(window.innerHeight * 0.6, 720)) / run.size;\n\
-    \x20 size.lane = Math.round(Math.max(34, Math.min(96, sought)));\n\
+    \x20 layOut(size, state, printing ? PAPER.height : Math.min(window.innerHeight * 0.6, 720));\n\
     \x20 size.width = printing ? PAPER.width - Math.max(PAPER.names, byId(\"lanes\").offsetWidth)\n\
     \x20   : Math.max(120, Math.floor(shell.clientWidth));\n\
-    \x20 size.height = size.top * 2 + size.lane * run.size + (size.lane < ROOMY_LANE ? UNDER_LAST : 0);\n\
     \x20 document.documentElement.style.setProperty(\"--lane-height\", size.lane + \"px\");\n\
     \x20 fitCanvas(canvas, size.width, size.height);\n\
     \x20 strip.width = Math.max(120, Math.floor(byId(\"stage\").clientWidth));\n\
     \x20 strip.height = Math.max(26, Math.min(60, 8 + 3 * run.size));\n\
     \x20 fitCanvas(overview, strip.width, strip.height);\n\
-    \x20 strip.ground = drawGround(run, palette, strip.width, strip.height, size.ratio);\n\
+    \x20 strip.ground = drawGround(run, state.order, palette, strip.width, strip.height, size.ratio);\n\
     \x20 if (!printing) return setView(state.view.left, state.view.scale);\n\
     \x20 state.view = paperView();\n\
     \x20 draw();   // no frame may come before the page is on paper\n\
@@ -80,6 +77,7 @@ pub(crate) const MAIN: &[u8] = b"\
     \x20 const context = canvas.getContext(\"2d\", { alpha: false });\n\
     \x20 context.setTransform(size.ratio, 0, 0, size.ratio, 0, 0);\n\
     \x20 const told = drawDiagram(context, run, state, palette, size);\n\
+    \x20 showHidden(told.between);\n\
     \x20 byId(\"level\").textContent = byId(\"level\").title = (told.drawn < told.all\n\
     \x20   ? \"1 of \" + Math.round(told.all / told.drawn) + \" messages drawn. \" : \"\") + (run.cycle !== null\n\
     \x20   ? \"Refused: a causal cycle\" : \"Level \" + levelOf(state.cut) + \", cut \" + state.cut.join(\",\"));\
@@ -87,6 +85,11 @@ pub(crate) const MAIN: &[u8] = b"\
     \x20 const small = overview.getContext(\"2d\", { alpha: false });\n\
     \x20 small.setTransform(size.ratio, 0, 0, size.ratio, 0, 0);\n\
     \x20 drawOverview(small, run, state, palette, strip.ground, strip.width, strip.height, size.width);\n\
+    }\n\
+    \n\
+    function showHidden(between) {\n\
+    \x20 const text = hiddenText(run, state, between);\n\
+    \x20 if (byId(\"hidden\").textContent !== text) byId(\"hidden\").textContent = text;\n\
     }\n\
     \n\
     // Asks for one drawing at the next frame, however often it is called before.\n\
@@ -117,6 +120,11 @@ pub(crate) const MAIN: &[u8] = b"\
     \x20 const x = xOf(state.view, column);\n\
     \x20 if (x < 30 || x > size.width - 30) setView(column - size.width / 2 / state.view.scale, state.view.scale)\
     ;\n\
+    }\n\
+    \n\
+    // A run that would be too narrow as a whole is shown in part first.\n\
+    function firstScale() {\n\
+    \x20 return fitScale(run, size.width) < 14 ? 26 : 0;\n\
     }\n\
     \n\
     // The columns of the last events in the cut, or of those of the causal cycle.\n\
@@ -194,6 +202,7 @@ pub(crate) const MAIN: &[u8] = b"\
     \x20 state.cone = p === null || run.cycle !== null ? null : coneOf(run, p, i);\n\
     \x20 if (p !== null) {\n\
     \x20   state.lane = p;\n\
+    \x20   if (state.folded[p]) setLanes(state.order, state.folded.map((is, q) => is && q !== p), p);\n\
     \x20   list(p, i);\n\
     \x20   reveal(run.columns[p][i]);\n\
     \x20   say(eventText(run, p, i));\n\
@@ -224,12 +233,13 @@ pub(crate) const MAIN: &[u8] = b"\
     }\n\
     \n\
     function update() {\n\
+    \x20 updateView();\n\
     \x20 updatePredicates(run, state, cards);\n\
     \x20 updateTyped(run, state);\n\
     \x20 updateValues(run, state, rows);\n\
     \x20 updateEvent(run, state, actions);\n\
     \x20 updateListing(run, state, actions);\n\
-    \x20 updateLanes();\n\
+    \x20 updateHeads(run, state, lanes);\n\
     \x20 updateFilm();\n\
     \x20 byId(\"undo\").disabled = state.undo.length === 0;\n\
     \x20 redraw();\n\
@@ -246,41 +256,52 @@ pub(crate) const MAIN: &[u8] = b"\
     -------\n\
     \n\
     function makeLanes() {\n\
-    \x20 lanes = run.names.map((name, p) => {\n\
-    \x20   const count = element(\"span\", { class: \"count\" });\n\
-    \x20   const lane = element(\"div\", { class: \"lane\", role: \"slider\", \"aria-label\": name, \"aria-valuem\
-    in\": \"0\",\n\
-    \x20     \"aria-valuemax\": String(run.counts[p]), \"aria-orientation\": \"horizontal\", title: name },\n\
-    \x20     element(\"span\", { class: \"name\" }, name), count);\n\
-    \x20   lane.addEventListener(\"focus\", () => {\n\
+    \x20 const on = {\n\
+    \x20   focus: (p) => {\n\
     \x20     state.focused = true;\n\
     \x20     state.lane = p;\n\
-    \x20     updateLanes();\n\
+    \x20     updateHeads(run, state, lanes);\n\
     \x20     redraw();\n\
-    \x20   });\n\
-    \x20   lane.addEventListener(\"blur\", () => { state.focused = false; redraw(); });\n\
-    \x20   lane.addEventListener(\"keydown\", (event) => laneKey(event, p));\n\
-    \x20   byId(\"lanes\").append(lane);\n\
-    \x20   return { lane, count };\n\
-    \x20 });\n\
+    \x20   },\n\
+    \x20   blur: () => { state.focused = false; redraw(); },\n\
+    \x20   key: laneKey,\n\
+    \x20   fold: toggleFold,\n\
+    \x20   step: (p, step) => toPlace(p, state.order.indexOf(p) + step),\n\
+    \x20   grip: (event, p) => followGrip(event, size, p, (place) => toPlace(p, place)),\n\
+    \x20 };\n\
+    \x20 lanes = run.names.map((_, p) => makeLane(run, p, on));\n\
+    \x20 byId(\"lanes\").append(...lanes.map(({ head }) => head));\n\
     }\n\
     \n\
-    function updateLanes() {\n\
-    \x20 lanes.forEach(({ lane, count }, p) => {\n\
-    \x20   lane.tabIndex = p === state.lane ? 0 : -1;\n\
-    \x20   if (run.cycle !== null) {\n\
-    \x20     const i = state.selected !== null && state.selected.p === p ? state.selected.i : 0;\n\
-    \x20     lane.setAttribute(\"aria-valuenow\", String(i));\n\
-    \x20     lane.setAttribute(\"aria-valuetext\", i === 0 ? \"no event is selected\" : eventText(run, p, i));\n\
-    \x20     count.textContent = counted(run.counts[p], \"event\");\n\
-    \x20     return;\n\
-    \x20   }\n\
-    \x20   const events = state.cut[p];\n\
-    \x20   lane.setAttribute(\"aria-valuenow\", String(events));\n\
-    \x20   lane.setAttribute(\"aria-valuetext\", events + \" of \" + run.counts[p] + \" events in the cut\" +\n\
-    \x20     (events === 0 ? \"\" : \"; the last is \" + eventText(run, p, events)));\n\
-    \x20   count.textContent = events + \"/\" + run.counts[p];\n\
-    \x20 });\n\
+    // Gives the lanes another order, and folds some of them. Their heads stand beside what is drawn of them.\n\
+    function setLanes(order, folded, lane = state.lane) {\n\
+    \x20 Object.assign(state, { order, folded, lane });\n\
+    \x20 orderHeads(lanes, order, lane);\n\
+    \x20 measure();\n\
+    \x20 update();\n\
+    }\n\
+    \n\
+    function toPlace(p, place) {\n\
+    \x20 if (place < 0 || place >= run.size || state.order[place] === p) return;\n\
+    \x20 setLanes(movedTo(state.order, p, place), state.folded, p);\n\
+    \x20 say(run.names[p] + \" is lane \" + (place + 1) + \" of \" + run.size + \" now.\");\n\
+    }\n\
+    \n\
+    function toggleFold(p) {\n\
+    \x20 setLanes(state.order, state.folded.map((is, q) => is !== (q === p)), p);\n\
+    \x20 say(\"The lane of \" + run.names[p] + \" is \" + (state.folded[p] ? \"folded.\" : \"unfolded.\"));\n\
+    }\n\
+    \n\
+    // The processes that the shown predicate names, as first lanes.\n\
+    function namedFirst() {\n\
+    \x20 const { name, refs } = run.predicates[state.shown];\n\
+    \x20 setLanes(withFirst(state.order, processesOf(refs)), state.folded);\n\
+    \x20 say(\"The processes that \" + name + \" names stand first.\");\n\
+    }\n\
+    \n\
+    function resetLanes() {\n\
+    \x20 setLanes([...run.names.keys()], run.names.map(() => false));\n\
+    \x20 say(\"All lanes are unfolded, in the order of the document.\");\n\
     }\n\
     \n\
     function laneKey(event, p) {\n\
@@ -293,10 +314,44 @@ pub(crate) const MAIN: &[u8] = b"\
     \x20   if (run.counts[p] > 0) select(p, Math.max(1, i));\n\
     \x20 } else if (step !== undefined) cutTo(p, within(state.cut[p] + step));\n\
     \x20 else if (event.key === \"ArrowUp\" || event.key === \"ArrowDown\") {\n\
-    \x20   const q = p + (event.key === \"ArrowUp\" ? -1 : 1);\n\
-    \x20   if (q >= 0 && q < run.size) lanes[q].lane.focus();\n\
+    \x20   const q = state.order[state.order.indexOf(p) + (event.key === \"ArrowUp\" ? -1 : 1)];\n\
+    \x20   if (q !== undefined) lanes[q].lane.focus();\n\
     \x20 } else return;\n\
     \x20 event.preventDefault();\n\
+    }\n\
+    \n\
+    // ---- what matters ----------------------------------------------------------------------------------------\
+    -------\n\
+    \n\
+    // Shows only what matters to the shown predicate, or all again. The variables that are shown so stand in `on\
+    lyFor`.\n\
+    let onlyFor = \"\";\n\
+    function setOnly(on) {\n\
+    \x20 state.only = on;\n\
+    \x20 const wanted = on && state.shown >= 0 ? String(state.shown) : \"\";\n\
+    \x20 if (wanted === onlyFor) return;\n\
+    \x20 onlyFor = wanted;\n\
+    \x20 if (wanted === \"\") showAll(run);\n\
+    \x20 else showOnly(run, run.predicates[state.shown].refs);\n\
+    \x20 strip.ground = drawGround(run, state.order, palette, strip.width, strip.height, size.ratio);\n\
+    \x20 state.view = clampView(run, size.width, { left: 0, scale: firstScale() });\n\
+    \x20 if (run.cycle === null) revealCut();\n\
+    }\n\
+    \n\
+    function toggleOnly() {\n\
+    \x20 setOnly(!state.only);\n\
+    \x20 say(run.only === null ? \"All events are shown.\" : \"Only what matters to \" + run.predicates[state.sho\
+    wn].name +\n\
+    \x20   \" is shown.\");\n\
+    \x20 update();\n\
+    }\n\
+    \n\
+    function updateView() {\n\
+    \x20 setOnly(state.only);\n\
+    \x20 byId(\"only\").setAttribute(\"aria-pressed\", String(run.only !== null));\n\
+    \x20 byId(\"only\").disabled = byId(\"named-first\").disabled = state.shown < 0;\n\
+    \x20 byId(\"reset-lanes\").disabled = !state.folded.includes(true) && state.order.every((p, place) => p === p\
+    lace);\n\
     }\n\
     \n\
     // ---- the film --------------------------------------------------------------------------------------------\
@@ -444,173 +499,8 @@ pub(crate) const MAIN: &[u8] = b"\
     \x20 event.preventDefault();\n\
     }\n\
     \n\
-    // ---- the pointer -----------------------------------------------------------------------------------------\
-    -------\n\
-    \n\
-    // Where each finger is, and the pinch of two: the column between them stays between them.\n\
-    const fingers = new Map();\n\
-    let pinch = null;\n\
-    \n\
-    function spread() {\n\
-    \x20 const [one, other] = [...fingers.values()];\n\
-    \x20 return { middle: (one.x + other.x) / 2, apart: Math.max(20, Math.hypot(one.x - other.x, one.y - other.y)\
-    ) };\n\
-    }\n\
-    \n\
-    function startPinch() {\n\
-    \x20 const { middle, apart } = spread();\n\
-    \x20 pinch = { column: columnAt(state.view, middle), scale: state.view.scale, apart };\n\
-    }\n\
-    \n\
-    function movePinch() {\n\
-    \x20 const { middle, apart } = spread();\n\
-    \x20 stretch(pinch.scale * apart / pinch.apart, pinch.column, middle);\n\
-    }\n\
-    \n\
-    function watchPointer() {\n\
-    \x20 let drag = null;\n\
-    \x20 const place = (event) => {\n\
-    \x20   const box = canvas.getBoundingClientRect();\n\
-    \x20   return { x: event.clientX - box.left, y: event.clientY - box.top };\n\
-    \x20 };\n\
-    \x20 // One finger less: what is left of a pinch goes along the run.\n\
-    \x20 const lift = (event) => {\n\
-    \x20   drag = null;\n\
-    \x20   canvas.style.cursor = \"\";\n\
-    \x20   if (!fingers.delete(event.pointerId) || pinch === null) return;\n\
-    \x20   if (fingers.size >= 2) return startPinch();\n\
-    \x20   pinch = null;\n\
-    \x20   const [left] = fingers.values();\n\
-    \x20   drag = { x: left.x, left: state.view.left, moved: true };\n\
-    \x20 };\n\
-    \x20 canvas.addEventListener(\"pointerdown\", (event) => {\n\
-    \x20   if (event.button !== 0) return;\n\
-    \x20   const { x, y } = place(event);\n\
-    \x20   if (event.pointerType === \"touch\") fingers.set(event.pointerId, { x, y });\n\
-    \x20   if (fingers.size >= 2) {\n\
-    \x20     drag = null;\n\
-    \x20     hideTip();\n\
-    \x20     return startPinch();\n\
-    \x20   }\n\
-    \x20   const grip = gripNear(run, state, size, x, y);\n\
-    \x20   hideTip();\n\
-    \x20   if (grip !== null && grip.edge) return reveal(run.columns[grip.p][state.cut[grip.p]]);\n\
-    \x20   canvas.setPointerCapture(event.pointerId);\n\
-    \x20   if (grip !== null) {\n\
-    \x20     pause();\n\
-    \x20     drag = { p: grip.p, start: state.cut, kept: false };\n\
-    \x20   } else drag = { x, left: state.view.left, moved: false };\n\
-    \x20 });\n\
-    \x20 canvas.addEventListener(\"pointermove\", (event) => {\n\
-    \x20   const { x, y } = place(event);\n\
-    \x20   if (fingers.has(event.pointerId)) fingers.set(event.pointerId, { x, y });\n\
-    \x20   if (pinch !== null) return movePinch();\n\
-    \x20   if (drag === null) return hover(x, y);\n\
-    \x20   if (drag.start === undefined) {\n\
-    \x20     if (Math.abs(x - drag.x) > 4) drag.moved = true;\n\
-    \x20     if (drag.moved) setView(drag.left - (x - drag.x) / state.view.scale, state.view.scale);\n\
-    \x20     canvas.style.cursor = drag.moved ? \"grabbing\" : \"\";\n\
-    \x20     return;\n\
-    \x20   }\n\
-    \x20   const margin = 24;\n\
-    \x20   if (x < margin || x > size.width - margin) {\n\
-    \x20     setView(state.view.left + (x < margin ? -8 : 8) / state.view.scale, state.view.scale);\n\
-    \x20   }\n\
-    \x20   const count = countUpTo(run.columns[drag.p], columnAt(state.view, x));\n\
-    \x20   const { cut, forced } = moveTo(run, drag.start, drag.p, count);\n\
-    \x20   if (String(cut) === String(state.cut)) return;\n\
-    \x20   state.lane = drag.p;\n\
-    \x20   setCut(cut, { forced, from: drag.start, keep: !drag.kept, text: moveText(run, drag.start, cut, drag.p,\
-    \x20forced) });\n\
-    \x20   drag.kept = true;\n\
-    \x20 });\n\
-    \x20 canvas.addEventListener(\"pointerup\", (event) => {\n\
-    \x20   if (drag !== null && drag.start === undefined && !drag.moved) click(event, place(event));\n\
-    \x20   lift(event);\n\
-    \x20 });\n\
-    \x20 canvas.addEventListener(\"pointercancel\", lift);\n\
-    \x20 canvas.addEventListener(\"touchmove\", (event) => {\n\
-    \x20   if (event.touches.length > 1 && event.cancelable) event.preventDefault();   // the page isn't zoomed a\
-    s well\n\
-    \x20 }, { passive: false });\n\
-    \x20 canvas.addEventListener(\"pointerleave\", hideTip);\n\
-    \x20 canvas.addEventListener(\"wheel\", (event) => {\n\
-    \x20   const { x } = place(event);\n\
-    \x20   if (event.ctrlKey) {\n\
-    \x20     event.preventDefault();\n\
-    \x20     return zoom(Math.exp(-event.deltaY * (event.deltaMode === 1 ? 0.05 : 0.0025)), x);\n\
-    \x20   }\n\
-    \x20   const delta = (Math.abs(event.deltaX) > Math.abs(event.deltaY) ? event.deltaX : event.deltaY) *\n\
-    \x20     (event.deltaMode === 1 ? 20 : 1);\n\
-    \x20   const { left } = state.view;\n\
-    \x20   setView(left + delta / state.view.scale, state.view.scale);\n\
-    \x20   if (state.view.left !== left) event.preventDefault();\n\
-    \x20 }, { passive: false });\n\
-    \x20 let held = false;\n\
-    \x20 const pan = (event) => {\n\
-    \x20   const box = overview.getBoundingClientRect();\n\
-    \x20   const column = (event.clientX - box.left) / (strip.width / (run.lastColumn + 1));\n\
-    \x20   setView(column - size.width / 2 / state.view.scale, state.view.scale);\n\
-    \x20 };\n\
-    \x20 overview.addEventListener(\"pointerdown\", (event) => {\n\
-    \x20   held = true;\n\
-    \x20   overview.setPointerCapture(event.pointerId);\n\
-    \x20   pan(event);\n\
-    \x20 });\n\
-    \x20 overview.addEventListener(\"pointermove\", (event) => { if (held) pan(event); });\n\
-    \x20 overview.addEventListener(\"pointerup\", () => { held = false; });\n\
-    }\n\
-    \n\
-    function click(event, { x, y }) {\n\
-    \x20 const near = eventNear(run, state, size, x, y);\n\
-    \x20 if (near === null) {\n\
-    \x20   if (state.selected !== null) select(null);\n\
-    \x20   return;\n\
-    \x20 }\n\
-    \x20 select(near.p, near.i);\n\
-    \x20 if (!event.shiftKey) cutTo(near.p, near.i);\n\
-    }\n\
-    \n\
-    function hover(x, y) {\n\
-    \x20 const grip = gripNear(run, state, size, x, y);\n\
-    \x20 const near = eventNear(run, state, size, x, y);\n\
-    \x20 canvas.style.cursor = grip !== null ? (grip.edge ? \"pointer\" : \"ew-resize\") : near !== null ? \"poin\
-    ter\" : \"grab\";\n\
-    \x20 if (grip !== null && !grip.edge) return hideTip();\n\
-    \x20 if (near !== null) return showTip(eventText(run, near.p, near.i), x, y);\n\
-    \x20 const m = state.view.scale >= DOT_SCALE ? messageNear(run, state, size, x, y) : null;\n\
-    \x20 if (m === null) return hideTip();\n\
-    \x20 const { from, fromEvent, to, toEvent, ids } = run.messages;\n\
-    \x20 showTip(ids[m] + \": \" + placeText(run, from[m], fromEvent[m]) +\n\
-    \x20   (to[m] < 0 ? \", in flight\" : \" to \" + placeText(run, to[m], toEvent[m])), x, y);\n\
-    }\n\
-    \n\
-    function showTip(text, x, y) {\n\
-    \x20 const tip = byId(\"tip\");\n\
-    \x20 tip.hidden = false;\n\
-    \x20 tip.textContent = text;\n\
-    \x20 const left = Math.max(4, Math.min(x + 14, size.width - tip.offsetWidth - 4));\n\
-    \x20 const below = y + 18;\n\
-    \x20 tip.style.left = left + \"px\";\n\
-    \x20 tip.style.top = (below + tip.offsetHeight > size.height ? y - tip.offsetHeight - 12 : below) + \"px\";\n\
-    }\n\
-    \n\
-    function hideTip() {\n\
-    \x20 byId(\"tip\").hidden = true;\n\
-    }\n\
-    \n\
     // ---- what is taken along ---------------------------------------------------------------------------------\
     -------\n\
-    \n\
-    // What is shown of the run, as a file. The address of the file is given back once it is saved.\n\
-    function savePicture() {\n\
-    \x20 canvas.toBlob((blob) => {\n\
-    \x20   const link = element(\"a\", { href: URL.createObjectURL(blob), download: \"run.png\" });\n\
-    \x20   link.click();\n\
-    \x20   setTimeout(() => URL.revokeObjectURL(link.href), 1000);\n\
-    \x20   say(\"The picture is saved as run.png.\");\n\
-    \x20 });\n\
-    }\n\
     \n\
     async function copyText() {\n\
     \x20 try {\n\
@@ -636,12 +526,15 @@ pub(crate) const MAIN: &[u8] = b"\
     \n\
     function readAddress() {\n\
     \x20 const given = readFragment(run, location.hash);\n\
+    \x20 state.only = given.only >= 0;\n\
     \x20 if (given.view !== null) state.view = given.view;\n\
     \x20 if (given.film !== null) openFilm(given.film.k, given.film.step);\n\
     \x20 if (given.cut !== null) {\n\
     \x20   setCut(given.cut, { from: given.cut, text: given.film !== null ? byId(\"status\").textContent\n\
     \x20     : truthText(run, given.cut) + \" \" + HOW_TO_MOVE });\n\
     \x20 }\n\
+    \x20 if (state.only) state.shown = given.only;\n\
+    \x20 setLanes(given.order, given.folded);\n\
     \x20 if (given.selected !== null) {\n\
     \x20   state.selected = given.selected;\n\
     \x20   state.cone = run.cycle !== null ? null : coneOf(run, given.selected.p, given.selected.i);\n\
@@ -694,8 +587,7 @@ pub(crate) const MAIN: &[u8] = b"\
     \x20   state.cut = state.before = run.counts.slice();\n\
     \x20   say(\"The session is refused: its events make a causal cycle, which is marked.\");\n\
     \x20 }\n\
-    \x20 if (fitScale(run, size.width) < 14) state.view.scale = 26;\n\
-    \x20 setView(0, state.view.scale === 1 ? 0 : state.view.scale);\n\
+    \x20 setView(0, firstScale());\n\
     \x20 state.lane = Math.max(0, state.cut.findIndex((count) => count > 0));\n\
     \x20 list(state.lane, state.cut[state.lane]);\n\
     \x20 const given = readAddress();\n\
@@ -712,7 +604,11 @@ pub(crate) const MAIN: &[u8] = b"\
     \x20 onClick(\"zoom-out\", () => zoom(1 / 1.5));\n\
     \x20 onClick(\"fit\", () => setView(0, 0));\n\
     \x20 onClick(\"to-cut\", revealCut);\n\
-    \x20 onClick(\"save-picture\", savePicture);\n\
+    \x20 onClick(\"save-picture\", () => savePicture(run, state, palette, size, lanes, say));\n\
+    \x20 onClick(\"save-drawing\", () => saveDrawing(run, state, palette, size, lanes, say));\n\
+    \x20 onClick(\"only\", toggleOnly);\n\
+    \x20 onClick(\"named-first\", namedFirst);\n\
+    \x20 onClick(\"reset-lanes\", resetLanes);\n\
     \x20 onClick(\"copy-text\", copyText);\n\
     \x20 onClick(\"film-play\", play);\n\
     \x20 onClick(\"film-back\", () => { pause(); toStep(state.film.step - 1); });\n\

@@ -201,14 +201,14 @@ pub(crate) const PANEL: &[u8] = b"\
     \x20   element(\"code\", {}, run.messages.ids[message]), \" from \", at(send),\n\
     \x20   ...(send.i === next.i ? [\"\"] : [\", which comes after \", at(next)])));\n\
     \x20 byId(\"cycle\").append(element(\"p\", {}, \"The session is refused: its events make a causal cycle. Goin\
-    g back from each \" +\n\
-    \x20   \"receipt to the send, and along that process to the receipt before it, one comes to the first receipt\
-    \x20again:\"),\n\
+    g back from \" +\n\
+    \x20   \"each receipt to the send, and along that process to the receipt before it, one comes to the first re\
+    ceipt again:\"),\n\
     \x20   element(\"ol\", {}, ...steps), element(\"p\", {}, \"So each of these events would have happened before\
-    \x20itself. No run \" +\n\
-    \x20   \"is so: the recording has events in a wrong order, or gives a message a wrong id. There is no cut to \
-    move, and no \" +\n\
-    \x20   \"predicate is answered.\"));\n\
+    \x20itself. No \" +\n\
+    \x20   \"run is so: the recording has events in a wrong order, or gives a message a wrong id. There is no cut\
+    \x20to move, and \" +\n\
+    \x20   \"no predicate is answered.\"));\n\
     }\n\
     \n\
     // ---- values ----------------------------------------------------------------------------------------------\

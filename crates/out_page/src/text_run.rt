@@ -31,6 +31,10 @@ pub(crate) const RUN: &[u8] = b"\
     \x20 run.cycle = data.cycle === undefined ? null : linksOf(run, data.cycle);\n\
     \x20 giveClocks(run);\n\
     \x20 giveSpans(run);\n\
+    \x20 // What is shown: all events, or of these only some, closed up (`showOnly`).\n\
+    \x20 run.whole = { columns: run.columns, lastColumn: run.lastColumn, spans: run.spans, only: null,\n\
+    \x20               shown: run.columns.map((columns) => ({ events: null, columns })) };\n\
+    \x20 Object.assign(run, run.whole);\n\
     \x20 // Of a run that is refused no predicate is answered.\n\
     \x20 run.predicates = run.cycle !== null ? [] : data.predicates.map((tree, k) => {\n\
     \x20   const node = readPredicate(tree, names, run.vars);\n\
@@ -147,8 +151,8 @@ pub(crate) const RUN: &[u8] = b"\
     \x20     while (done[p] < counts[p]) {\n\
     \x20       const i = done[p] + 1;\n\
     \x20       const m = messageAt[p][i];\n\
-    \x20       const from = m >= 0 && messages.to[m] === p && messages.toEvent[m] === i && !loose.has(m) ? messag\
-    es.from[m] : -1;\n\
+    \x20       const isReceipt = m >= 0 && messages.to[m] === p && messages.toEvent[m] === i && !loose.has(m);\n\
+    \x20       const from = isReceipt ? messages.from[m] : -1;\n\
     \x20       if (from >= 0 && done[from] < messages.fromEvent[m]) break;\n\
     \x20       const base = i * size;\n\
     \x20       clocks.copyWithin(base, base - size, base);\n\
@@ -212,17 +216,18 @@ pub(crate) const RUN: &[u8] = b"\
     \x20 return to < 0 ? messageStart(run, m) + 1 : run.columns[to][run.messages.toEvent[m]];\n\
     }\n\
     \n\
-    // The messages of which a part lies between these columns.\n\
+    // The messages of which a part lies between these columns, and which are shown.\n\
     function messagesBetween(run, left, right) {\n\
     \x20 const { order, reach } = run.spans;\n\
     \x20 const found = [];\n\
     \x20 for (let block = 0; block < reach.length; block++) {\n\
     \x20   const first = block * SPAN_BLOCK;\n\
-    \x20   if (messageStart(run, order[first]) > right) break;\n\
+    \x20   if (Math.floor(messageStart(run, order[first])) > right) break;\n\
     \x20   if (reach[block] < left) continue;\n\
     \x20   const end = Math.min(order.length, first + SPAN_BLOCK);\n\
     \x20   for (let k = first; k < end; k++) {\n\
     \x20     const m = order[k];\n\
+    \x20     if (run.only !== null && run.only.kept[m] === 0) continue;\n\
     \x20     if (messageStart(run, m) > right) break;\n\
     \x20     if (messageEnd(run, m) >= left) found.push(m);\n\
     \x20   }\n\
@@ -615,14 +620,16 @@ pub(crate) const RUN: &[u8] = b"\
     \n\
     // Hits by column and process.\n\
     function inOrder(run, hits) {\n\
-    \x20 return [...hits.values()].sort((a, b) => run.columns[a.p][a.i] - run.columns[b.p][b.i] || a.p - b.p);\n\
+    \x20 const { columns } = run.whole;\n\
+    \x20 return [...hits.values()].sort((a, b) => columns[a.p][a.i] - columns[b.p][b.i] || a.p - b.p);\n\
     }\n\
     \n\
     // ---- the address -----------------------------------------------------------------------------------------\
     -------\n\
     \n\
-    // cut=2,0,2&view=LEFT,SCALE&event=NAME.I&film=NAME.STEP, where LEFT is a column and SCALE the pixels of one.\
-    \n\
+    // cut=2,0,2&view=LEFT,SCALE&event=NAME.I&film=NAME.STEP, where LEFT is a column and SCALE the pixels of one;\
+    \x20for a view\n\
+    // of what matters only=NAME, of a predicate; for lanes that are moved or folded lanes=2,0,1 and folded=0,1.\n\
     function fragmentOf(run, state) {\n\
     \x20 const parts = run.cycle === null ? [\"cut=\" + state.cut.join(\",\")] : [];\n\
     \x20 parts.push(\"view=\" + Number(state.view.left.toFixed(2)) + \",\" + Number(state.view.scale.toPrecision(\
@@ -631,7 +638,26 @@ pub(crate) const RUN: &[u8] = b"\
     d.i);\n\
     \x20 if (state.film !== null) parts.push(\"film=\" + run.predicates[state.film.k].name + \".\" + state.film.s\
     tep);\n\
+    \x20 if (run.only !== null) parts.push(\"only=\" + run.predicates[state.shown].name);\n\
+    \x20 if (state.order.some((p, place) => p !== place)) parts.push(\"lanes=\" + state.order.join(\",\"));\n\
+    \x20 const folded = state.order.filter((p) => state.folded[p]).sort((p, q) => p - q);\n\
+    \x20 if (folded.length > 0) parts.push(\"folded=\" + folded.join(\",\"));\n\
     \x20 return parts.join(\"&\");\n\
+    }\n\
+    \n\
+    function numbersOf(text) {\n\
+    \x20 return /^\\d+(,\\d+)*$/.test(text ?? \"\") ? text.split(\",\").map(Number) : [];\n\
+    }\n\
+    \n\
+    // Of a fragment the predicate of a view of what matters, the order of the lanes, and which of them are folde\
+    d.\n\
+    function readLanes(run, { only, lanes, folded }) {\n\
+    \x20 const order = numbersOf(lanes);\n\
+    \x20 const isOrder = order.length === run.size && run.names.every((_, p) => order.includes(p));\n\
+    \x20 const shut = numbersOf(folded);\n\
+    \x20 return { only: run.predicates.findIndex(({ name }) => name === only),\n\
+    \x20          order: isOrder ? order : [...run.names.keys()], folded: run.names.map((_, p) => shut.includes(p\
+    )) };\n\
     }\n\
     \n\
     // What a fragment says, of it only what this run has.\n\
@@ -640,8 +666,8 @@ pub(crate) const RUN: &[u8] = b"\
     \x20   const equals = part.indexOf(\"=\");\n\
     \x20   return [part.slice(0, equals), part.slice(equals + 1)];\n\
     \x20 }));\n\
-    \x20 const said = { cut: null, view: null, selected: null, film: null };\n\
-    \x20 const counts = /^\\d+(,\\d+)*$/.test(given.cut ?? \"\") ? given.cut.split(\",\").map(Number) : [];\n\
+    \x20 const said = { cut: null, view: null, selected: null, film: null, ...readLanes(run, given) };\n\
+    \x20 const counts = numbersOf(given.cut);\n\
     \x20 if (run.cycle === null && isCut(run, counts) && isConsistent(run, counts)) said.cut = counts;\n\
     \x20 const [left, scale] = (given.view ?? \"\").split(\",\").map(Number);\n\
     \x20 if (Number.isFinite(left) && scale > 0 && scale < 1e4) said.view = { left, scale };\n\
