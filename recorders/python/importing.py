@@ -14,6 +14,7 @@ from monitor_recorder import EVENT_LIMIT, NotRecorded, Recorder, checked_name, c
 PROCESS_LIMIT = 16
 PREDICATE_LIMIT = 16
 WIDTH_LIMIT = 65_536
+ERROR_LIMIT = 5_000
 WHOLE_NUMBER = re.compile(r"[+-]?[0-9]{1,30}")
 TRUTHS = {"true": 1, "false": 0}
 
@@ -60,10 +61,17 @@ def explained(read):
     return reads
 
 
-def decoded(path):
-    """The text of a file in UTF-8, in which each line ends with an LF alone."""
-    with open(path, "rb") as file:
-        data = file.read()
+def shown(value):
+    """The value as Python writes it, cut if it is long."""
+    text = repr(value[:100] if isinstance(value, (str, bytes)) else value)
+    return text if len(text) <= 80 else text[:80] + " .."
+
+
+def decoded(path, data=None):
+    """The text of a file in UTF-8, in which each line ends with an LF alone. `data` is its bytes, if they were read."""
+    if data is None:
+        with open(path, "rb") as file:
+            data = file.read()
     try:
         return data.decode("utf-8-sig").replace("\r\n", "\n")
     except UnicodeDecodeError as error:
@@ -357,6 +365,7 @@ def run(imported, given):
     try:
         print(imported(given))
     except (Refused, OSError) as error:
-        print(f"refused: {error}", file=sys.stderr)
+        text = str(error)
+        print("refused:", text if len(text) <= ERROR_LIMIT else text[:ERROR_LIMIT] + " ..", file=sys.stderr)
         return 1
     return 0
