@@ -1,0 +1,46 @@
+-- All predicates that are named are there where a session is explored.
+use Rattle.std.proofs.Common.{List, ℕ, Err, Ok, Bor, map, subst, sym}
+use Rattle.app_arguments.specs.ConditionViews.{fail_on_view}
+use Rattle.app_arguments.specs.Views.{session_view}
+use Rattle.judge_explore.specs.FileViews.{files_view}
+use Rattle.judge_explore.specs.Sources.{AreFilesOf}
+use Rattle.judge_explore.specs.declared.stream_file.StreamFile.{StreamFile as Used}
+use Rattle.judge_session.specs.Inquiries.{inquiry_view}
+use Rattle.app_host.specs.Faults.{judgement_ending}
+use Rattle.app_host.specs.FileSources.{bytes_in}
+use Rattle.app_host.proofs.NamedPredicates.{with_named}
+use Rattle.pd_cli.specs.Explorations.{OfPage}
+use Rattle.pd_cli.proofs.ExplorationEnds.{left_with_files}
+use Rattle.pd_cli.proofs.explore_files.explore_named.Goals as goal
+
+pub returns-in-Ok : goal.returns-in-Ok
+returns-in-Ok g c =
+    let fail_on = fail_on_view c.args.judgement.now.fail_on in
+    let asked = inquiry_view c.args.inquiry in
+    let inputs = map g.R.ByteSource.left c.args.streams.items in
+    let old = g.O.Write.contents c.args.output.now in
+    let new = g.O.Write.contents c.explore_read.new.output in
+    let AreFiles = AreFilesOf (bytes_in (g.Y.Files.FileSource.file_of c.args.world.now.files.now))
+    (session_view c.args.judgement.now.names).1 in
+    with_named fail_on (OfPage AreFiles inputs fail_on) asked old new
+    (c.in_ok-has_named.ensures.yes c.if-not-branch.false) (λ never. never)
+    (judgement_ending fail_on (Ok c.in-Ok.report))
+    (left_with_files asked (files_view c.deref-2.result.now) inputs AreFiles
+    (subst (λ (all : List Used). AreFiles (files_view all)) (sym c.deref-2.ensures.value) c.in_ok-sources.ensures)
+    fail_on old new (judgement_ending fail_on (Ok c.in-Ok.report)) (c.in-Ok.ensures.written fail_on))
+
+pub returns-in-Err : goal.returns-in-Err
+returns-in-Err g c =
+    let fail_on = fail_on_view c.args.judgement.now.fail_on in
+    let asked = inquiry_view c.args.inquiry in
+    let inputs = map g.R.ByteSource.left c.args.streams.items in
+    let old = g.O.Write.contents c.args.output.now in
+    let new = g.O.Write.contents c.explore_read.new.output in
+    let AreFiles = AreFilesOf (bytes_in (g.Y.Files.FileSource.file_of c.args.world.now.files.now))
+    (session_view c.args.judgement.now.names).1 in
+    with_named fail_on (OfPage AreFiles inputs fail_on) asked old new
+    (c.in_ok-has_named.ensures.yes c.if-not-branch.false) (λ never. never)
+    (judgement_ending fail_on (Err c.in-Err.fault))
+    (left_with_files asked (files_view c.deref-2.result.now) inputs AreFiles
+    (subst (λ (all : List Used). AreFiles (files_view all)) (sym c.deref-2.ensures.value) c.in_ok-sources.ensures)
+    fail_on old new (judgement_ending fail_on (Err c.in-Err.fault)) (c.in-Err.ensures.written fail_on))
