@@ -40,6 +40,8 @@ VARIABLE = "MONITOR_EXPLAIN"
 ROW = 80
 # How errors begin that have more than one fixed line.
 FINDING = "monitor: no picture, for a check finds:\n"
+# How a page begins, which is all of one that the golden file shows.
+HTML = "<!doctype html>"
 # What is told while a server runs, in an order that may change: `servers.py` has the cases.
 TOLD = re.compile(r"^serve: .*\n(?:  .*\n)*", re.MULTILINE)
 
@@ -68,6 +70,11 @@ def session(name, spec=None, a=A + '{"set":{"x":1}}\n' + END, b=B + '{"set":{"y"
     if c is not None:
         files["c.stream"] = c
     return Case(name, files, ("judge", "session.json", "a.stream", "b.stream", *words), **more)
+
+
+def paged(case):
+    """The same session, of which a page is written."""
+    return case._replace(words=("explore", *case.words[1:]))
 
 
 def processes(*items):
@@ -300,6 +307,8 @@ def answers():
     yield session("no condition is met", two, a=EARLY, b=TAKES, words=("--fail-on", "never:possibly,unknown"))
     unknown = wide()
     yield unknown._replace(name="a condition is met by what is unknown", words=(*unknown.words, "--fail-on", "unknown"))
+    yield paged(session("answers of which a page is written", a=EARLY, b=TAKES))
+    yield paged(session("a condition is met by what a page shows", a=EARLY, b=TAKES, words=("--fail-on", "possibly")))
     yield session("an answer about streams on standard input", input=TAKES.encode(), a=EARLY)._replace(
         words=("judge", "session.json", "a.stream", "-"))
     yield Case("an answer about a bundle", input=bundle(document(), EARLY, TAKES))
@@ -471,7 +480,7 @@ def explained(program, case):
         if any(len(line) > ROW for line in explanation.splitlines()):
             wrong.append(f"a line has more than {ROW} columns: {explanation!r}")
         explanation = re.sub(rf"\b([Pp]ort) (?:{port}|{ports['FREE'] or port})\b", r"\1 7411", explanation)
-        return plain[2] or plain[1], explanation, wrong
+        return plain[2] or (HTML if plain[1].startswith(HTML) else plain[1]), explanation, wrong
 
 
 def closed_pipe(program):

@@ -59,7 +59,7 @@ _monitor() {
     check) options='--explain --width --ask -h --help' ;;
     draw) options='--explain --width --ask --predicate --evidence --from --all -h --help' ;;
     serve) options='--explain --width --ask --port --watchers --wait --keep --workers --beyond-width --fail-on -h --help' ;;
-    explore) options='--explain --width --ask --workers --beyond-width -h --help' ;;
+    explore) options='--explain --width --ask --workers --beyond-width --fail-on -h --help' ;;
     help)
       COMPREPLY=($(compgen -W 'judge check draw serve explore help' -- "$current"))
       return ;;

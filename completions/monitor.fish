@@ -51,5 +51,6 @@ complete -c monitor -n '__fish_seen_subcommand_from explore' -l width -x -d 'How
 complete -c monitor -n '__fish_seen_subcommand_from explore' -l ask -x -d 'A predicate in place of the document'\''s, as TEXT or as NAME=TEXT; given again, one more. Without a name the first is ask1, the second ask2'
 complete -c monitor -n '__fish_seen_subcommand_from explore' -l workers -x -a '1 2 3 4 5 6 7 8 9 10 11 12 13 14 15 16' -d 'How many threads, at most 16, share the work on levels with many cuts; they change no byte of the report [default: 1]'
 complete -c monitor -n '__fish_seen_subcommand_from explore' -l beyond-width -d 'Answer predicates whatever the width, as far as they are decided without the levels of the lattice'
+complete -c monitor -n '__fish_seen_subcommand_from explore' -l fail-on -x -a '(__monitor_conditions)' -d 'End with status 5 if an answer is one of these, as possibly or NAME:unknown, with commas between them'
 complete -c monitor -n '__fish_seen_subcommand_from explore' -s h -l help -d 'Print help'
 complete -c monitor -n '__fish_seen_subcommand_from help' -f -a 'judge check draw serve explore help'

@@ -124,9 +124,9 @@ report_app name = with_rule (with_rule (document_app name) (required_rule (codes
 abbrev pub judging_app : App → App
 judging_app app = with_rule (with_rule (with_rule app workers_rule) beyond_width_rule) fail_on_rule
 
--- `judge SPEC STREAM... [--workers WORKERS] [--beyond-width] [--fail-on LIST]`
-abbrev pub judge_app : App
-judge_app = judging_app (with_rule (document_app (codes "judge")) stream_rule)
+-- `NAME SPEC STREAM... [--workers WORKERS] [--beyond-width] [--fail-on LIST]`, for `judge` and `explore`
+abbrev pub files_app : (name : Text) → App
+files_app name = judging_app (with_rule (document_app name) stream_rule)
 
 -- `check SPEC REPORT STREAM...`
 abbrev pub check_app : App
@@ -143,11 +143,6 @@ abbrev pub serve_app : App
 serve_app = judging_app (with_rule (with_rule (with_rule (with_rule (document_app (codes "serve")) port_rule)
     watchers_rule) wait_rule) keep_rule)
 
--- `explore SPEC STREAM... [--workers WORKERS] [--beyond-width]`
-abbrev pub explore_app : App
-explore_app =
-    with_rule (with_rule (with_rule (document_app (codes "explore")) stream_rule) workers_rule) beyond_width_rule
-
 -- `[--explain]`: the program alone, with a version; its name isn't among the arguments that are parsed
 abbrev pub plain_shape : Shape
 plain_shape = record (new_app (codes "monitor")).top { no_binary_name = true; has_version = true }
@@ -158,7 +153,7 @@ plain_app = with_rule (record { top = plain_shape; subs = [] }) explain_rule
 -- with its commands
 abbrev pub monitor_app : App
 monitor_app = with_subcommand (with_subcommand (with_subcommand (with_subcommand (with_subcommand plain_app
-    judge_app.top) check_app.top) draw_app.top) serve_app.top) explore_app.top
+    (files_app (codes "judge")).top) check_app.top) draw_app.top) serve_app.top) (files_app (codes "explore")).top
 
 -- a command line that is another one with this command too
 abbrev pub AddsCommand : {E : Type 0} → (old : Command) → Result Command E → (new : Command) → Type 0
@@ -269,6 +264,16 @@ NamesConditions rows conditions = AreConditions (first_of (codes "LIST") rows) c
 abbrev pub LacksConditions : List Row → Type 0
 LacksConditions rows = (conditions : List Condition) → ¬ NamesConditions rows conditions
 
+-- a session's files, with what is asked beside the document, and the answers to fail on
+pub record NamesJudgement (rows : List Row) (document : Text) (streams : List Text) (options : Options)
+    (fail_on : List Condition) : Type 0 where
+  pub names_session : NamesSession rows document streams
+  pub names_options : NamesOptions rows options
+  pub says_beyond_width : SaysBeyondWidth rows options.beyond_width
+  pub workers : ℕ
+  pub names_workers : NamesWorkers rows workers
+  pub names_conditions : NamesConditions rows fail_on
+
 -- the name of a session document's file, the port of the streams, and the number of watchers
 pub record NamesService (rows : List Row) (document : Text) (port watchers : ℕ) : Type 0 where
   pub names_document : first_of (codes "SPEC") rows ≡ Some document
@@ -329,13 +334,9 @@ TakesStreams command = (command ≡ codes "judge") ⊎ (command ≡ codes "check
 abbrev pub TakesReport : (command : Text) → Type 0
 TakesReport command = (command ≡ codes "check") ⊎ (command ≡ codes "draw")
 
--- the commands that judge under conditions
+-- the commands that judge, by a number of workers and under conditions
 abbrev pub IsJudging : (command : Text) → Type 0
-IsJudging command = (command ≡ codes "judge") ⊎ (command ≡ codes "serve")
-
--- the commands that take a number of workers
-abbrev pub TakesWorkers : (command : Text) → Type 0
-TakesWorkers command = (command ≡ codes "judge") ⊎ (command ≡ codes "serve") ⊎ (command ≡ codes "explore")
+IsJudging command = (command ≡ codes "judge") ⊎ (command ≡ codes "serve") ⊎ (command ≡ codes "explore")
 
 -- What the arguments ask for. If they are taken, it is what their command is for, and with no command the bundle on the
 -- input is judged. Arguments that are not taken ask for a text that is shown, or have some other fault; and so have
@@ -347,10 +348,9 @@ pub data AsksFor (arguments : List Text) : Request → Type 0 where
       → ¬ ((rows : List Row) × AreOf (codes "draw") arguments rows)
       → ¬ ((rows : List Row) × AreOf (codes "serve") arguments rows)
       → ¬ ((rows : List Row) × AreOf (codes "explore") arguments rows) → AsksFor arguments JudgeInput
-  of_judge : (rows : List Row) (document : Text) (streams : List Text) (workers : ℕ) (options : Options)
-      (fail_on : List Condition) → AreTaken arguments → AreOf (codes "judge") arguments rows
-      → NamesSession rows document streams → NamesOptions rows options → SaysBeyondWidth rows options.beyond_width
-      → NamesWorkers rows workers → NamesConditions rows fail_on
+  of_judge : (rows : List Row) (document : Text) (streams : List Text) (options : Options) (fail_on : List Condition)
+      → AreTaken arguments → AreOf (codes "judge") arguments rows
+      → NamesJudgement rows document streams options fail_on
       → AsksFor arguments (JudgeFiles options fail_on document streams)
   of_check : (rows : List Row) (document report : Text) (streams : List Text) (options : Options)
       → AreTaken arguments → AreOf (codes "check") arguments rows → NamesSession rows document streams
@@ -366,10 +366,10 @@ pub data AsksFor (arguments : List Text) : Request → Type 0 where
       → NamesOptions rows options → SaysBeyondWidth rows options.beyond_width → NamesWorkers rows workers
       → NamesConditions rows fail_on
       → AsksFor arguments (ServeStreams options fail_on document port watchers wait keep)
-  of_explore : (rows : List Row) (document : Text) (streams : List Text) (workers : ℕ) (options : Options)
-      → AreTaken arguments → AreOf (codes "explore") arguments rows → NamesSession rows document streams
-      → NamesOptions rows options → SaysBeyondWidth rows options.beyond_width → NamesWorkers rows workers
-      → AsksFor arguments (ExploreFiles options document streams)
+  of_explore : (rows : List Row) (document : Text) (streams : List Text) (options : Options)
+      (fail_on : List Condition) → AreTaken arguments → AreOf (codes "explore") arguments rows
+      → NamesJudgement rows document streams options fail_on
+      → AsksFor arguments (ExploreFiles options fail_on document streams)
   of_help : HasFault arguments DisplayHelp → AsksFor arguments ShowHelp
   of_version : HasFault arguments DisplayVersion → AsksFor arguments ShowVersion
   of_fault : (kind : ErrorKind) → ¬ IsShownKind kind → HasFault arguments kind → AsksFor arguments Unclear
@@ -379,7 +379,7 @@ pub data AsksFor (arguments : List Text) : Request → Type 0 where
       → ¬ ((report : Text) × NamesReport rows report) → AsksFor arguments Unclear
   of_missing_service : (rows : List Row) → AreOf (codes "serve") arguments rows → LacksService rows
       → AsksFor arguments Unclear
-  of_missing_workers : (command : Text) (rows : List Row) → TakesWorkers command → AreOf command arguments rows
+  of_missing_workers : (command : Text) (rows : List Row) → IsJudging command → AreOf command arguments rows
       → LacksWorkers rows → AsksFor arguments Unclear
   of_no_conditions : (command : Text) (rows : List Row) → IsJudging command → AreOf command arguments rows
       → LacksConditions rows → AsksFor arguments Unclear
@@ -401,6 +401,10 @@ FindsSession rows (Some names) = NamesSession rows names.0 names.1
 abbrev pub FindsConditions : List Row → Option (List Condition) → Type 0
 FindsConditions rows None = LacksConditions rows
 FindsConditions rows (Some conditions) = NamesConditions rows conditions
+
+-- there is no judgement of files for one of these reasons
+abbrev pub LacksJudgement : List Row → Type 0
+LacksJudgement rows = LacksWorkers rows ⊎ LacksSession rows ⊎ LacksConditions rows
 
 -- how much of the run is asked for by the number of a column, if there is one, and by the flag
 abbrev pub extent_by : Option ℕ → (all : Bool) → Option Extent

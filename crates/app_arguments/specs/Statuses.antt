@@ -30,7 +30,7 @@ pub data Request : Type 0 where
       (wait : Option ℕ) (keep : Option (List ℕ)) → Request
   -- to write a page of a session document, with what is asked beside it, and streams of events, each in a file of this
   -- name
-  ExploreFiles : (options : Options) (document : List ℕ) (streams : List (List ℕ)) → Request
+  ExploreFiles : (options : Options) (fail_on : List Condition) (document : List ℕ) (streams : List (List ℕ)) → Request
   -- to show the help
   ShowHelp : Request
   -- to say which version of the program this is

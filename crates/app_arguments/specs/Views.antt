@@ -1,12 +1,13 @@
 -- What the program is asked for, as the definitions name it.
-use Rattle.std.specs.Prelude.{List, ℕ, map, option_map, Option, Some, None}
+use Rattle.std.specs.Prelude.{List, ℕ, map, option_map, Option, Some, None, MatchOption}
 use Rattle.std.specs.Borrow.{Bor}
 use Rattle.app_arguments.specs.Statuses as asked
-use Rattle.clap.specs.Words.{Text}
+use Rattle.clap.specs.Words.{Row, Text}
 use Rattle.pd_spec.specs.Views.{options_view}
 use Rattle.app_arguments.specs.ConditionViews.{fail_on_view}
 use Rattle.out_picture.specs.Scopes.{scope_view}
-use Rattle.app_arguments.specs.Arguments.{AsksFor}
+use Rattle.app_arguments.specs.Arguments.{AsksFor, LacksJudgement, NamesJudgement}
+use Rattle.app_arguments.specs.declared.request.Judgement.{Judgement}
 use Rattle.app_arguments.specs.declared.request.Request.{Request}
 use Rattle.app_arguments.specs.declared.request.Request.TheVariants.{Bundle, Judge, Check, Draw, Serve, Explore}
 use Rattle.app_arguments.specs.declared.request.SessionNames.{SessionNames}
@@ -14,6 +15,12 @@ use Rattle.app_arguments.specs.declared.request.SessionNames.{SessionNames}
 -- the names of the document's file and of the streams' files
 abbrev pub session_view : SessionNames → List ℕ × List (List ℕ)
 session_view names = (names.spec.now, map (λ name. name.now) names.streams.items)
+
+-- the judgement of files that is named, or that there is none
+abbrev pub FindsJudgement : List Row → Option Judgement → Type 0
+FindsJudgement rows found =
+    MatchOption found (LacksJudgement rows) (λ judgement. NamesJudgement rows (session_view judgement.names).0
+    (session_view judgement.names).1 (options_view judgement.names.options) (fail_on_view judgement.fail_on))
 
 -- the name of the folder in which a session is kept, if it is
 abbrev pub keep_view : Option (Bor (List ℕ)) → Option (List ℕ)
@@ -33,9 +40,9 @@ request_view (Draw report scope names) =
 request_view (Serve service) =
     asked.ServeStreams (options_view service.options) (fail_on_view service.fail_on) service.spec.now service.port
     service.watchers service.wait (keep_view service.keep)
-request_view (Explore exploration) =
-    asked.ExploreFiles (options_view exploration.names.options) (session_view exploration.names).0
-    (session_view exploration.names).1
+request_view (Explore judgement) =
+    asked.ExploreFiles (options_view judgement.names.options) (fail_on_view judgement.fail_on)
+    (session_view judgement.names).0 (session_view judgement.names).1
 
 -- the arguments ask for this
 abbrev pub IsAsked : List Text → Request → Type 0

@@ -5,7 +5,7 @@ ghost use Rattle.clap.specs.Values.{kind_of};
 ghost use Rattle.clap.specs.Walk.{Text, all_of, rows_of};
 ghost use Rattle.app_arguments.specs.Arguments.{AreOf, AreTaken, FindsConditions, FindsExtent, FindsSession, FindsScope, IsErrorOf, IsNumberText, IsPort, IsShownKind, NamesConditions, NamesNumber, NamesOptions, NamesPredicates, NamesWait, NamesWidth, NamesWorkers, SaysBeyondWidth, SaysFlag, extent_by, kind_text, monitor_app};
 ghost use Rattle.app_arguments.specs.ConditionViews.{fail_on_view};
-ghost use Rattle.app_arguments.specs.Views.{IsAsked, IsAskedIf, session_view};
+ghost use Rattle.app_arguments.specs.Views.{FindsJudgement, IsAsked, IsAskedIf, session_view};
 ghost use Rattle.pd_spec.specs.Views.{options_view};
 ghost use Rattle.out_picture.specs.Scopes.{scope_view};
 ghost use Rattle.out_picture.specs.declared.kind.Kind as kinds;
@@ -15,7 +15,7 @@ use super::commands::{
     EXTENT_USAGE, KIND_USAGE, LIST_USAGE, PORT_LIMIT, WATCHER_LIMIT, program_command,
 };
 use super::fail_on::FailOn;
-use super::request::{Exploration, Judgement, Request, Service, SessionNames};
+use super::request::{Judgement, Request, Service, SessionNames};
 use super::workers::Workers;
 use clap::error::ErrorKind;
 use clap::{ArgMatches, Command, Error};
@@ -88,14 +88,12 @@ fn session_names<'a>(
     }))
 }
 
-/// What the arguments of `judge` ask for, if all names are there.
-fn judge_request<'a>(
+/// What a judgement of files is asked for, if all names are there.
+fn judgement_of<'a>(
     alloc: Global,
     matches: &ArgMatches<'a>,
-) -> Result<Option<Request<'a>>, AllocError>
-    ensures { IfOk result (λ request. (arguments : List Text) → AreTaken arguments
-        → AreOf (codes "judge") arguments (rows_of (found_of matches.now))
-        → IsAskedIf arguments request) }
+) -> Result<Option<Judgement<'a>>, AllocError>
+    ensures { IfOk result (FindsJudgement (rows_of (found_of matches.now))) }
 {
     let Some(workers) = workers_of(matches) else {
         return Ok(None);
@@ -107,11 +105,26 @@ fn judge_request<'a>(
     let Some(fail_on) = conditions_of(alloc, matches)? else {
         return Ok(None);
     };
-    Ok(Some(Request::Judge(Judgement {
+    Ok(Some(Judgement {
         names,
         fail_on,
         workers,
-    })))
+    }))
+}
+
+/// What the arguments of `judge` ask for, if all names are there.
+fn judge_request<'a>(
+    alloc: Global,
+    matches: &ArgMatches<'a>,
+) -> Result<Option<Request<'a>>, AllocError>
+    ensures { IfOk result (λ request. (arguments : List Text) → AreTaken arguments
+        → AreOf (codes "judge") arguments (rows_of (found_of matches.now))
+        → IsAskedIf arguments request) }
+{
+    let Some(judgement) = judgement_of(alloc, matches)? else {
+        return Ok(None);
+    };
+    Ok(Some(Request::Judge(judgement)))
 }
 
 /// What the arguments of `check` ask for, if all names are there.
@@ -363,14 +376,10 @@ fn explore_request<'a>(
         → AreOf (codes "explore") arguments (rows_of (found_of matches.now))
         → IsAskedIf arguments request) }
 {
-    let Some(workers) = workers_of(matches) else {
+    let Some(judgement) = judgement_of(alloc, matches)? else {
         return Ok(None);
     };
-    let beyond_width = flag_of(matches, "BEYOND_WIDTH");
-    let Some(names) = session_names(alloc, matches, beyond_width)? else {
-        return Ok(None);
-    };
-    Ok(Some(Request::Explore(Exploration { names, workers })))
+    Ok(Some(Request::Explore(judgement)))
 }
 
 /// What is asked for, by what the parser found, if no name of a file and no number is missing.

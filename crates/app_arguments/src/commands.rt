@@ -2,9 +2,9 @@
 ghost use Rattle.clap.specs.Simple.{app_of};
 ghost use Rattle.clap.specs.Walk.{rule_of};
 ghost use Rattle.clap.specs.declared.builder.command.Command.TheViews.{out-Command};
-ghost use Rattle.app_arguments.specs.Arguments.{AddsCommand, all_rule, ask_rule, beyond_width_rule, check_app, document_app, draw_app, explain_rule, explore_app, fail_on_rule, from_rule, judge_app, judging_app, keep_rule, kind_rule, monitor_app, number_rule, plain_app, port_rule, predicate_rule, report_app, required_rule, serve_app, stream_rule, wait_rule, watchers_rule, width_rule, workers_rule};
+ghost use Rattle.app_arguments.specs.Arguments.{AddsCommand, all_rule, ask_rule, beyond_width_rule, check_app, document_app, draw_app, explain_rule, fail_on_rule, files_app, from_rule, judging_app, keep_rule, kind_rule, monitor_app, number_rule, plain_app, port_rule, predicate_rule, report_app, required_rule, serve_app, stream_rule, wait_rule, watchers_rule, width_rule, workers_rule};
 ghost use Rattle.app_arguments.specs.Statuses.{IsVersionLine};
-ghost use Rattle.std.specs.Prelude.{◌≡◌, IfOk, false};
+ghost use Rattle.std.specs.Prelude.{◌≡◌, IfOk, codes, false};
 
 use clap::builder::ValueParser;
 use clap::{Arg, ArgAction, Command};
@@ -143,6 +143,8 @@ in itself, with the run, the predicates and the answers. Of a session that is re
 cycle, and of one that is refused otherwise the report is written in its place, as by `judge`. The status is 0 if the \
 session is judged, 1 if it is refused, also because a stream can't be read, 2 if the arguments are refused, 3 if a \
 file can't be opened, the document can't be read or the output can't be written, and 4 if memory runs out.\n\n\
+With --fail-on the status may be 5, as that of `judge`, whose help says what LIST is; the page is written all the \
+same.\n\n\
 The formats are described in docs/SPECIFICATION.md. An example, at the top of the repository:\n  \
 crates/monitor/out/monitor explore examples/ten-lines/session.json examples/ten-lines/left.stream \
 examples/ten-lines/right.stream > run.html";
@@ -384,15 +386,26 @@ fn judging_command<'a>(alloc: Global, command: Command<'a>) -> Result<Command<'a
         .arg(fail_on_option(alloc))
 }
 
-/// The command line of a judgement.
-fn judge_command<'a>(alloc: Global) -> Result<Command<'a>, AllocError>
-    ensures app { IfOk result (λ command. app_of command ≡ judge_app) }
+/// The command line of the command of this name that judges files, with what its help begins and ends with.
+fn files_command<'a>(
+    alloc: Global,
+    name: &'a str,
+    about: &'a str,
+    after_help: &'a str,
+) -> Result<Command<'a>, AllocError>
+    ensures app { IfOk result (λ command. app_of command ≡ files_app name.now) }
     ensures local { IfOk result (λ command. (out-Command command).has_globals ≡ false) }
 {
-    let command = document_command(alloc, "judge", JUDGE_ABOUT, JUDGE_AFTER)?.arg(streams_argument(
-        alloc,
-    ))?;
+    let command = document_command(alloc, name, about, after_help)?.arg(streams_argument(alloc))?;
     judging_command(alloc, command)
+}
+
+/// The command line of a judgement.
+fn judge_command<'a>(alloc: Global) -> Result<Command<'a>, AllocError>
+    ensures app { IfOk result (λ command. app_of command ≡ files_app (codes "judge")) }
+    ensures local { IfOk result (λ command. (out-Command command).has_globals ≡ false) }
+{
+    files_command(alloc, "judge", JUDGE_ABOUT, JUDGE_AFTER)
 }
 
 /// The command line of a check.
@@ -430,13 +443,10 @@ fn serve_command<'a>(alloc: Global) -> Result<Command<'a>, AllocError>
 
 /// The command line of a page.
 fn explore_command<'a>(alloc: Global) -> Result<Command<'a>, AllocError>
-    ensures app { IfOk result (λ command. app_of command ≡ explore_app) }
+    ensures app { IfOk result (λ command. app_of command ≡ files_app (codes "explore")) }
     ensures local { IfOk result (λ command. (out-Command command).has_globals ≡ false) }
 {
-    document_command(alloc, "explore", EXPLORE_ABOUT, EXPLORE_AFTER)?
-        .arg(streams_argument(alloc))?
-        .arg(workers_option(alloc))?
-        .arg(beyond_width_option(alloc))
+    files_command(alloc, "explore", EXPLORE_ABOUT, EXPLORE_AFTER)
 }
 
 /// The program's command line without its commands.

@@ -36,5 +36,5 @@ pub use conclusion::Conclusion;
 pub use fail_on::FailOn;
 pub use kind::Kind;
 pub use reason::Reason;
-pub use request::{Exploration, Judgement, Request, Service, SessionNames};
+pub use request::{Judgement, Request, Service, SessionNames};
 pub use workers::Workers;

@@ -16,22 +16,13 @@ pub struct SessionNames<'a> {
     pub options: Options<'a>,
 }
 
-/// What a judgement of files is asked for.
+/// What a judgement of files is asked for, whether its report is written or the page on which its run is explored.
 #[derive(Drop)]
 pub struct Judgement<'a> {
     /// The names of the session's files.
     pub names: SessionNames<'a>,
     /// The answers to fail on.
     pub fail_on: FailOn<'a>,
-    /// How many workers share the work.
-    pub workers: Workers,
-}
-
-/// What is asked for of a page on which a run is explored.
-#[derive(Drop)]
-pub struct Exploration<'a> {
-    /// The names of the session's files.
-    pub names: SessionNames<'a>,
     /// How many workers share the work.
     pub workers: Workers,
 }
@@ -70,6 +61,6 @@ pub enum Request<'a> {
     Draw(&'a str, DrawOptions<'a>, SessionNames<'a>),
     /// To judge a session document and streams that come by connections.
     Serve(Service<'a>),
-    /// To write the page on which the run of a session document and streams is explored.
-    Explore(Exploration<'a>),
+    /// To judge a session document and streams, and write the page on which their run is explored.
+    Explore(Judgement<'a>),
 }

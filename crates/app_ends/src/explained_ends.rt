@@ -6,7 +6,7 @@ use super::reasons::put_reasons;
 use super::seen_files::{seen_document, seen_file, seen_streams};
 use super::seen_parts::{document_of, parts_of, streams_of};
 use super::unknown_names::put_unknown_condition;
-use app_arguments::{Exploration, FailOn, Judgement, SessionNames};
+use app_arguments::{Judgement, SessionNames};
 use app_explain::{
     Judged, Seen, SeenStream, Widest, explain_bundle_fault, explain_file, explain_finding,
     explain_long_report, explain_memory, explain_no_file, explain_no_picture, explain_no_predicate,
@@ -150,11 +150,11 @@ pub fn put_fault<Y: System>(
 fn put_files_report<Y: System>(
     out: &mut Vec<u8>,
     world: &World<'_, Y>,
-    names: &SessionNames<'_>,
-    fail_on: Option<&FailOn<'_>>,
+    judgement: &Judgement<'_>,
     widest: Widest,
     report: &Report,
 ) -> Result<(), AllocError> {
+    let names = &judgement.names;
     let streams = seen_streams(world.alloc, world.notes, &names.streams)?;
     let seen = Seen {
         document: seen_document(world.notes, names.spec),
@@ -163,10 +163,7 @@ fn put_files_report<Y: System>(
         order: "",
     };
     put_report(out, world.rt, world.alloc, seen, widest, report)?;
-    match fail_on {
-        Some(fail_on) => put_reasons(out, world.alloc, fail_on, report),
-        None => Ok(()),
-    }
+    put_reasons(out, world.alloc, &judgement.fail_on, report)
 }
 
 /// What is read of the document in a session's file, with what is asked.
@@ -216,9 +213,7 @@ fn put_judgement<Y: System>(
 ) -> Result<(), AllocError> {
     let names = &judgement.names;
     match end {
-        Ok(Some(report)) => {
-            put_files_report(out, world, names, Some(&judgement.fail_on), widest, report)
-        }
+        Ok(Some(report)) => put_files_report(out, world, judgement, widest, report),
         Ok(None) => put_unknown_named(out, world, judgement),
         Err(fault) => put_fault(out, world, None, names.spec, &names.streams, fault),
     }
@@ -234,35 +229,6 @@ pub fn judgement_text<Y: System>(
     let mut out = Vec::new(world.alloc);
     if world.explain {
         let _ = put_judgement(&mut out, world, judgement, widest, end);
-    }
-    rows_of(world.alloc, out)
-}
-
-/// Explains how an exploration ended.
-fn put_exploration<Y: System>(
-    out: &mut Vec<u8>,
-    world: &World<'_, Y>,
-    exploration: &Exploration<'_>,
-    end: &Result<Option<Report>, EngineFault>,
-) -> Result<(), AllocError> {
-    let names = &exploration.names;
-    match end {
-        Ok(None) => Ok(()),
-        Ok(Some(report)) => { put_files_report(out, world, names, None, Widest::unknown(), report) }
-        Err(fault) => put_fault(out, world, None, names.spec, &names.streams, fault),
-    }
-}
-
-/// The explanation of how an exploration ended, as far as it could be made; empty if none is wanted. What is unknown is
-/// said on the page.
-pub fn exploration_text<Y: System>(
-    world: &World<'_, Y>,
-    exploration: &Exploration<'_>,
-    end: &Result<Option<Report>, EngineFault>,
-) -> Vec<u8> {
-    let mut out = Vec::new(world.alloc);
-    if world.explain {
-        let _ = put_exploration(&mut out, world, exploration, end);
     }
     rows_of(world.alloc, out)
 }

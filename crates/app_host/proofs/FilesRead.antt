@@ -250,6 +250,21 @@ report_weaker IsText IsOther fail_on old new go (Failed WriteFailure) left =
 report_weaker IsText IsOther fail_on old new go (Failed BundleFailure) left = left
 report_weaker IsText IsOther fail_on old new go (Failed NetworkFailure) left = left
 
+-- the same where memory ran out, or a file couldn't be read
+pub read_weaker : (P Q : Ending → (old new : Option (List ℕ)) → Type 0) (old new : Option (List ℕ))
+    → ((ending : Ending) → P ending old new → Q ending old new) → (ending : Ending) → ReadLeaves P ending old new
+    → ReadLeaves Q ending old new
+read_weaker P Q old new go Success left = go Success left
+read_weaker P Q old new go Negative left = go Negative left
+read_weaker P Q old new go Alarm left = go Alarm left
+read_weaker P Q old new go NoPredicate left = go NoPredicate left
+read_weaker P Q old new go Misuse left = go Misuse left
+read_weaker P Q old new go (Failed MemoryFailure) left = left
+read_weaker P Q old new go (Failed ReadFailure) left = absurd left
+read_weaker P Q old new go (Failed WriteFailure) left = go (Failed WriteFailure) left
+read_weaker P Q old new go (Failed BundleFailure) left = go (Failed BundleFailure) left
+read_weaker P Q old new go (Failed NetworkFailure) left = go (Failed NetworkFailure) left
+
 pub report_text_of_files : (options : Options) (read document : List ℕ) (files lefts : List Source)
     (IsSaid : Report → Type 0) (text : List ℕ) → SameOutline options read document → AllZip Knows files lefts
     → IsTextOfStreams (inquiry_of options read) lefts IsSaid text

@@ -1,19 +1,22 @@
 -- A flush changes nothing of what is written, and a text of which something is said is one of which nothing is said.
-use Rattle.std.proofs.Common.{◌≡◌, ◌≤◌, ◌∙◌, ℕ, List, ap, length, None, Some, Option, Ok, Err, inl, refl, true, false}
-use Rattle.std.specs.Prelude.{Bool, if◌then◌else◌}
+use Rattle.std.proofs.Common.{◌≡◌, ◌≤◌, ◌∙◌, ℕ, List, ap, length, None, Some, Option, Ok, Err, inl, inr, refl, true, false}
+use Rattle.std.specs.Prelude.{◌⊎◌, Bool, if◌then◌else◌}
 use Rattle.std.specs.List.{list_any}
 use Rattle.std.specs.Io.KnownBytes.{Keeps}
 use Rattle.def_format.specs.Documents.{Inquiry}
 use Rattle.def_format.specs.Limits.{report_byte_limit}
 use Rattle.def_format.specs.Reports as formats
 use Rattle.def_judgement.specs.Headline.{is_judged}
-use Rattle.app_arguments.specs.Statuses.{ComesTo, JudgementLeaves, OfFinding, OfStreams, WritesUpTo}
-use Rattle.def_judgement.specs.Writes.{Source, Whole, Writes, IsAnyReport, IsFindingTextOf, IsJudged, IsRefused, IsTextOfBundle, IsTextOfStreams, whole_source}
-use Rattle.def_judgement.proofs.TextsOwed.{weaker_said_of_bundle, weaker_said_of_streams}
+use Rattle.app_arguments.specs.Statuses.{ComesTo, JudgementLeaves, OfFinding, OfReport, WritesUpTo}
+use Rattle.def_judgement.specs.Writes.{Source, Partial, Whole, Writes, IsAnyReport, IsFindingTextOf, IsJudged, IsRefused, IsTextOfBundle, whole_source}
+use Rattle.def_judgement.proofs.TextsOwed.{weaker_said_of_bundle}
+use Rattle.def_judgement.proofs.Writing.{writes_weaker}
 use Rattle.app_host.proofs.FilesRead.{whole_is_whole}
 use Rattle.pd_report.specs.Views.{report_view}
 use Rattle.pd_report.specs.declared.report.Report.{Report}
-use Rattle.judge_session.specs.declared.fault.EngineFault.TheVariants.{Write}
+use Rattle.judge_session.specs.Ends.{fault_end}
+use Rattle.judge_session.specs.declared.fault.EngineFault.{EngineFault}
+use Rattle.judge_session.specs.declared.fault.EngineFault.TheVariants.{BundleLong, Memory, Read, Write}
 use Rattle.pd_engine.specs.Ends.{IsGiven}
 use Rattle.app_arguments.specs.Conditions as conditions
 use Rattle.app_arguments.specs.Conditions.{Conclusion, Condition, conclusion, is_met}
@@ -55,41 +58,55 @@ is_refusal fail_on (formats.Refused refusal) is = refl
 is_refusal fail_on (formats.Judged processes events messages answers) is =
     absurd (no_refusal (list_any (is_met answers) fail_on) is)
 
--- a judgement's report is written, and then the output is flushed
-pub judged_ends : (document : Inquiry) (inputs : List Source) (given : Report) (old middle new : Option (List ℕ))
-    → Writes (IsTextOfStreams document inputs (IsGiven (Ok given))) Whole old middle → Keeps middle new
-    → (fail_on : List Condition)
-    → ReadLeaves (OfStreams inputs fail_on document) (judgement_ending fail_on (Ok given)) old new
-judged_ends document inputs given old middle new written keeps fail_on =
-    go (conclusion fail_on (report_view given)) refl
-  where
-    leaves : (IsSaid : formats.Report → Type 0) → ((report : formats.Report) → IsGiven (Ok given) report
-        → IsSaid report) → Writes (IsTextOfStreams document inputs IsSaid) Whole old new
-    leaves IsSaid tell = (
-      written.0,
-      weaker_said_of_streams document inputs (IsGiven (Ok given)) IsSaid written.0 tell written.1,
-      appends_kept old middle new written.0 written.2 keeps,
-    )
+-- of texts that hold by what is said of a report, and of which holds what follows from that
+module _ (IsText : (formats.Report → Type 0) → List ℕ → Type 0)
+    (weaker : (P Q : formats.Report → Type 0) (text : List ℕ) → ((report : formats.Report) → P report → Q report)
+    → IsText P text → IsText Q text) where
+  -- the text of the report that is given is written, and then the output is flushed
+  pub report_ends : (given : Report) (old middle new : Option (List ℕ)) → Writes (IsText (IsGiven (Ok given))) Whole
+      old middle → Keeps middle new → (fail_on : List Condition)
+      → ReadLeaves (OfReport IsText fail_on) (judgement_ending fail_on (Ok given)) old new
+  report_ends given old middle new written keeps fail_on = go (conclusion fail_on (report_view given)) refl
+    where
+      leaves : (IsSaid : formats.Report → Type 0) → ((report : formats.Report) → IsGiven (Ok given) report
+          → IsSaid report) → Writes (IsText IsSaid) Whole old new
+      leaves IsSaid tell = (
+        written.0,
+        weaker (IsGiven (Ok given)) IsSaid written.0 tell written.1,
+        appends_kept old middle new written.0 written.2 keeps,
+      )
 
-    go : (end : Conclusion) → conclusion fail_on (report_view given) ≡ end
-        → ReadLeaves (OfStreams inputs fail_on document) (concluded_ending end) old new
-    go conditions.OfRefusal is = leaves IsRefused
-        (λ report same. is_refusal fail_on report (ap (conclusion fail_on) same ∙ is))
-    go conditions.Met is = leaves (ComesTo fail_on conditions.Met) (λ report same. ap (conclusion fail_on) same ∙ is)
-    go conditions.Unmet is = leaves (ComesTo fail_on conditions.Unmet)
-        (λ report same. ap (conclusion fail_on) same ∙ is)
+      go : (end : Conclusion) → conclusion fail_on (report_view given) ≡ end
+          → ReadLeaves (OfReport IsText fail_on) (concluded_ending end) old new
+      go conditions.OfRefusal is = leaves IsRefused
+          (λ report same. is_refusal fail_on report (ap (conclusion fail_on) same ∙ is))
+      go conditions.Met is = leaves (ComesTo fail_on conditions.Met) (λ report same. ap (conclusion fail_on) same ∙ is)
+      go conditions.Unmet is = leaves (ComesTo fail_on conditions.Unmet)
+          (λ report same. ap (conclusion fail_on) same ∙ is)
 
--- or the flush fails
-pub unflushed_ends : (document : Inquiry) (inputs : List Source) (given : Report) (old middle new : Option (List ℕ))
-    → Writes (IsTextOfStreams document inputs (IsGiven (Ok given))) Whole old middle → Keeps middle new
-    → (fail_on : List Condition)
-    → ReadLeaves (OfStreams inputs fail_on document) (judgement_ending fail_on (Err Write)) old new
-unflushed_ends document inputs given old middle new written keeps fail_on =
-    flushed_up_to (IsTextOfStreams document inputs (IsGiven (Ok given))) (IsTextOfStreams document inputs IsAnyReport)
-    old middle new
-    (λ text. weaker_said_of_streams document inputs (IsGiven (Ok given)) IsAnyReport text (λ _ _. tt)) written keeps
+  -- or the flush fails
+  pub report_unflushed : (given : Report) (old middle new : Option (List ℕ)) → Writes (IsText (IsGiven (Ok given)))
+      Whole old middle → Keeps middle new → (fail_on : List Condition)
+      → ReadLeaves (OfReport IsText fail_on) (judgement_ending fail_on (Err Write)) old new
+  report_unflushed given old middle new written keeps fail_on =
+      flushed_up_to (IsText (IsGiven (Ok given))) (IsText IsAnyReport) old middle new
+      (λ text. weaker (IsGiven (Ok given)) IsAnyReport text (λ _ _. tt)) written keeps
 
--- the same of a bundle
+  -- or a write before it
+  pub report_fails : (fault : EngineFault) (old new : Option (List ℕ))
+      → Writes (IsText (IsGiven (Err fault))) (fault_end fault) old new → (fault ≡ Memory) ⊎ (fault ≡ Write)
+      → (fail_on : List Condition)
+      → ReadLeaves (OfReport IsText fail_on) (judgement_ending fail_on (Err fault)) old new
+  report_fails Memory old new written two fail_on = written
+  report_fails Write old new written two fail_on =
+      inr (writes_weaker (IsText (IsGiven (Err Write))) (IsText IsAnyReport) Partial old new
+      (λ text. weaker (IsGiven (Err Write)) IsAnyReport text (λ _ _. tt)) written)
+  report_fails Read old new written (inl is) fail_on = absurd (cc)
+  report_fails Read old new written (inr is) fail_on = absurd (cc)
+  report_fails BundleLong old new written (inl is) fail_on = absurd (cc)
+  report_fails BundleLong old new written (inr is) fail_on = absurd (cc)
+
+-- a bundle
 pub judged_bundle_ends : (input : Source) (given : Report)
     (old middle new : Option (List ℕ)) → Writes (IsTextOfBundle input (IsGiven (Ok given))) Whole old middle
     → Keeps middle new → JudgementLeaves input (report_ending (Ok given)) old new

@@ -10,7 +10,7 @@ use Rattle.judge_session.specs.declared.fault.EngineFault.{EngineFault}
 use Rattle.judge_session.specs.declared.fault.EngineFault.TheVariants.{BundleLong, Memory, Read, Write}
 use Rattle.app_host.specs.FileSources.{Knows}
 use Rattle.app_host.proofs.FilesRead.{of_known_bytes, of_known_fate}
-use Rattle.app_host.specs.Faults.{ending_view, exploration_ending, judgement_ending}
+use Rattle.app_host.specs.Faults.{ending_view, judgement_ending}
 
 pub keeps_same : (bytes : Option (List ℕ)) → Keeps bytes bytes
 keeps_same None = tt
@@ -66,15 +66,6 @@ module _ (options : Options) (document : File) (IsUnread : Type 0)
   unread_judgement fail_on Write (inr is) unread = absurd (cc)
   unread_judgement fail_on BundleLong (inl is) unread = absurd (cc)
   unread_judgement fail_on BundleLong (inr is) unread = absurd (cc)
-
-  pub unread_exploration : (fault : EngineFault) → IsReadFault fault → (fault ≡ Read → IsUnread)
-      → LeavesOf options document IsUnread P (exploration_ending (Err fault)) old old
-  unread_exploration Memory is unread = keeps_same old
-  unread_exploration Read is unread = (unread refl, keeps_same old)
-  unread_exploration Write (inl is) unread = absurd (cc)
-  unread_exploration Write (inr is) unread = absurd (cc)
-  unread_exploration BundleLong (inl is) unread = absurd (cc)
-  unread_exploration BundleLong (inr is) unread = absurd (cc)
 
   pub unread_check : (fault : EngineFault) → IsReadFault fault → (fault ≡ Read → IsUnread)
       → LeavesOf options document IsUnread P (ending_view (Err fault)) old old

@@ -55,9 +55,3 @@ named_ending fail_on (Err fault) = judgement_ending fail_on (Err fault)
 abbrev pub is_out_of_memory : SpecFault → Bool
 is_out_of_memory spec_faults.Memory = true
 is_out_of_memory _ = false
-
--- how a run that explores ends: the session is judged, or refused; or the fault
-abbrev pub exploration_ending : Result (Option Report) EngineFault → Ending
-exploration_ending (Ok None) = Success
-exploration_ending (Ok (Some refusal)) = Negative
-exploration_ending (Err fault) = Failed (failure_view fault)

@@ -39,14 +39,14 @@ pub use file_source::FileSource;
 pub use judgements::{judge_files, judge_read};
 pub use level_gate::LevelGate;
 pub use line::write_line;
-pub use named::is_out_of_memory;
+pub use named::{has_named, is_out_of_memory};
 pub use network::Network;
 pub use note::Note;
 pub use noted_source::NotedSource;
 pub use notes::Notes;
 pub use session_files::{open_noted, read_document, read_session};
 pub use status::{
-    FAILED, MISUSED, REFUSED, SUCCESS, conclusion_status, report_bundle, report_end,
-    report_exploration, report_fault, report_judgement, report_no_predicate,
+    FAILED, MISUSED, REFUSED, SUCCESS, conclusion_status, report_bundle, report_end, report_fault,
+    report_judgement, report_no_predicate,
 };
 pub use world::{System, World};

@@ -37,7 +37,7 @@ pub fn is_out_of_memory(fault: &SpecFault) -> bool
 ///
 /// # Errors
 /// `Memory`.
-pub(crate) fn has_named(
+pub fn has_named(
     alloc: Global,
     inquiry: Inquiry<'_, '_, '_>,
     fail_on: &FailOn<'_>,

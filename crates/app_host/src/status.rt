@@ -1,5 +1,5 @@
 //! Exit statuses, and what is reported on the errors.
-ghost use Rattle.app_host.specs.Faults.{concluded_ending, ending_view, exploration_ending, failure_view, judged_ending, named_ending, report_ending};
+ghost use Rattle.app_host.specs.Faults.{concluded_ending, ending_view, failure_view, judged_ending, named_ending, report_ending};
 ghost use Rattle.app_arguments.specs.ConditionViews.{conclusion_view, fail_on_view};
 ghost use Rattle.def_judgement.specs.Headline.{is_judged};
 ghost use Rattle.app_arguments.specs.Statuses.{IsLineOf, IsNoPredicateLine, Reports, WritesUpTo, line_of_failure, status_of, status_of_failure};
@@ -93,18 +93,6 @@ pub fn report_bundle<E: Write>(end: &Result<Report, EngineFault>, errors: &mut E
 {
     match end {
         Ok(report) => report_status(report),
-        Err(fault) => report_fault(fault, errors),
-    }
-}
-
-/// The exit status by how an exploration ended, whose fault is reported.
-pub fn report_exploration<E: Write>(end: &Result<Option<Report>, EngineFault>, errors: &mut E) -> u8
-    ensures status { result ≡ status_of (exploration_ending end.now) }
-    ensures errors { Reports (exploration_ending end.now) (E.contents errors.old) (E.contents errors.new) }
-{
-    match end {
-        Ok(None) => SUCCESS,
-        Ok(Some(_)) => REFUSED,
         Err(fault) => report_fault(fault, errors),
     }
 }

@@ -13,7 +13,7 @@ use Rattle.def_format.specs.Reports as reports
 use Rattle.def_format.specs.Sessions.{StreamResult, session}
 use Rattle.pd_gather.specs.Views.{traces_view}
 use Rattle.def_judgement.specs.Judgements.{IsAnswered, IsJudgement, IsTracesReport, events_of_traces}
-use Rattle.def_judgement.specs.Writes.{IsJudged, Source as StreamSource}
+use Rattle.def_judgement.specs.Writes.{Source as StreamSource}
 use Rattle.def_judgement.proofs.TrueReports.{judgement_is_true_lem}
 use Rattle.out_page.specs.AnswerData.{Answered, Cyclic}
 use Rattle.out_page.specs.Pages.{page_text}
@@ -29,25 +29,31 @@ use Rattle.pd_engine.proofs.AnsweredTraces.{answers_report}
 use Rattle.judge_explore.specs.Explored.{IsPageOfInputs, IsPageOfTraces, report_with}
 use Rattle.judge_explore.specs.Sources.{StreamFile, sources_of}
 
--- the page of traces that make a well-formed computation
+-- the page of traces that make a well-formed computation, of which these are the counts of the report
 pub traces_page : (document : Document) (sources : List Source) (traces : List Read) (recorded : Recorded)
-    (count : ℕ) (pairs : List (Place × Place)) (answers : List Answer) (text : List ℕ)
+    (count processes events : ℕ) (pairs : List (Place × Place)) (answers : List Answer) (text : List ℕ)
     → AreWellFormed document (traces_view traces) recorded count → IsMessageList (computation_view traces) pairs
     → AllZip (IsAnswered document recorded) document.predicates answers
+    → processes ≡ length document.names → events ≡ total recorded.events
     → text ≡ page_text document sources (computation_view traces) pairs (Answered answers)
-    → IsPageOfTraces document sources (traces_view traces) IsJudged text
-traces_page document sources traces recorded count pairs answers text well list answered is_text = record {
-  pairs = pairs;
-  are_messages = subst (λ (c : Computation). IsMessageList c pairs) (same_events traces) list;
-  messages = count;
-  outcome = Answered answers;
-  right = subst (λ (r : Recorded). IsTracesReport document (traces_view traces)
-      (Judged (length document.names) (total r.events) count answers)) well.same
-      (answers_report document (traces_view traces) recorded count answers well answered);
-  said = refl;
-  is_text = is_text
-      ∙ ap (λ (c : Computation). page_text document sources c pairs (Answered answers)) (same_events traces);
-}
+    → IsPageOfTraces document sources (traces_view traces) (λ report. report ≡ Judged processes events count answers)
+    text
+traces_page document sources traces recorded count processes events pairs answers text well list answered same_names
+    same_total is_text = record {
+      pairs = pairs;
+      are_messages = subst (λ (c : Computation). IsMessageList c pairs) (same_events traces) list;
+      messages = count;
+      outcome = Answered answers;
+      right = subst (λ (r : Recorded). IsTracesReport document (traces_view traces)
+          (Judged (length document.names) (total r.events) count answers)) well.same
+          (answers_report document (traces_view traces) recorded count answers well answered);
+      said = let counted : events ≡ total (events_of_traces (traces_view traces)) =
+          same_total ∙ ap (λ (r : Recorded). total r.events) well.same in
+          sym (ap (λ (n : ℕ). Judged n events count answers) same_names
+          ∙ ap (λ (n : ℕ). Judged (length document.names) n count answers) counted);
+      is_text = is_text
+          ∙ ap (λ (c : Computation). page_text document sources c pairs (Answered answers)) (same_events traces);
+    }
 
 -- the page of traces that are refused for a causal cycle
 pub cycle_page : (document : Document) (sources : List Source) (traces : List Read) (pairs : List (Place × Place))

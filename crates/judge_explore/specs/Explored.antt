@@ -1,5 +1,5 @@
 -- What is written of a session that is explored.
-use Rattle.std.specs.Prelude.{◌≡◌, ◌⊎◌, ℕ, Bool, true, false, List, length, Option, Some, None, Result, Ok, Err, IfErr}
+use Rattle.std.specs.Prelude.{◌≡◌, ◌⊎◌, ℕ, Bool, true, false, List, length, Option, Result, IfErr}
 use Rattle.std.specs.List.{AllZip}
 use Rattle.def_model.specs.Events.{Place}
 use Rattle.def_model.specs.Messages.{IsMessageList}
@@ -10,7 +10,7 @@ use Rattle.def_format.specs.Reports.{Report, Judged, Refused}
 use Rattle.def_format.specs.Reports as reports
 use Rattle.def_judgement.specs.Headline.{HoldsSession, IsTrueReport, is_judged}
 use Rattle.def_judgement.specs.Judgements.{IsJudgement, IsTracesReport, RawStream, events_of_traces}
-use Rattle.def_judgement.specs.Writes.{IsAnyReport, IsGivenAs, IsJudged, IsTextOfStreams, Writes, Source as StreamSource}
+use Rattle.def_judgement.specs.Writes.{IsGivenAs, IsTextOfStreams, Writes, Source as StreamSource}
 use Rattle.out_page.specs.AnswerData.{Answered, Cyclic, Outcome}
 use Rattle.out_page.specs.Pages.{page_text}
 use Rattle.out_page.specs.SourceData.{Source}
@@ -19,6 +19,7 @@ use Rattle.judge_session.specs.Ends.{call_end}
 use Rattle.judge_session.specs.declared.fault.EngineFault.{EngineFault}
 use Rattle.judge_session.specs.declared.fault.EngineFault.TheVariants.{Memory, Write}
 use Rattle.pd_report.specs.declared.report.Report as programs
+use Rattle.pd_engine.specs.Ends.{IsGiven}
 
 -- the report of traces of which this is shown, for a session with this many messages
 abbrev pub report_with : Document → List Trace → (messages : ℕ) → Outcome → Report
@@ -69,36 +70,22 @@ abbrev pub is_cycle : Report → Bool
 is_cycle (Refused (reports.Cycle places)) = true
 is_cycle _ = false
 
-abbrev pub IsCycle : Report → Type 0
-IsCycle report = is_cycle report ≡ true
-
 -- it is a refusal, and not for a causal cycle
 abbrev pub IsOtherRefusal : Report → Type 0
 IsOtherRefusal report = (is_judged report ≡ false) × (is_cycle report ≡ false)
 
--- The text that is owed of a session, with these files: of one that is judged its page; of one that is refused for a
--- causal cycle its page, which shows that; and of one that is refused otherwise the text of its report.
-abbrev pub IsOwed : (inquiry : Inquiry) (files : List StreamFile) (inputs : List StreamSource) (judged : Option Bool)
-    (text : List ℕ) → Type 0
-IsOwed inquiry files inputs (Some true) text =
-    IsPageOfInputs inquiry files inputs IsJudged text
-IsOwed inquiry files inputs (Some false) text =
-    IsPageOfInputs inquiry files inputs IsCycle text
-    ⊎ IsTextOfStreams inquiry inputs IsOtherRefusal text
-IsOwed inquiry files inputs None text =
-    IsPageOfInputs inquiry files inputs IsAnyReport text
-    ⊎ IsTextOfStreams inquiry inputs IsOtherRefusal text
-
--- whether the session is judged, and not refused with a report, if that is said
-abbrev pub judged_as : Result (Option programs.Report) EngineFault → Option Bool
-judged_as (Ok None) = Some true
-judged_as (Ok (Some refusal)) = Some false
-judged_as (Err fault) = None
+-- The text that is owed of a session, with these files: its page, if it is judged, or refused for a causal cycle, which
+-- the page shows; and the text of its report, if it is refused otherwise. Of the report this is said.
+abbrev pub IsOwed : (inquiry : Inquiry) (files : List StreamFile) (inputs : List StreamSource)
+    (IsSaid : Report → Type 0) (text : List ℕ) → Type 0
+IsOwed inquiry files inputs IsSaid text =
+    IsPageOfInputs inquiry files inputs IsSaid text
+    ⊎ IsTextOfStreams inquiry inputs (λ report. IsOtherRefusal report × IsSaid report) text
 
 -- What a call leaves on its output, and its result, if it explores the session of a document, with what is asked, and
--- of these sources of streams, with these files. What is owed is written whole, judged or refused as is reported; a
--- write that fails leaves a prefix of it, out of memory nothing, and no other fault comes.
+-- of these sources of streams, with these files. What is owed of the report that it gives is written whole; a write
+-- that fails leaves a prefix of what is owed, out of memory nothing, and no other fault comes.
 pub record Explores (inquiry : Inquiry) (files : List StreamFile) (inputs : List StreamSource)
-    (result : Result (Option programs.Report) EngineFault) (old new : Option (List ℕ)) : Type 0 where
-  pub written : Writes (IsOwed inquiry files inputs (judged_as result)) (call_end result) old new
+    (result : Result programs.Report EngineFault) (old new : Option (List ℕ)) : Type 0 where
+  pub written : Writes (IsOwed inquiry files inputs (IsGiven result)) (call_end result) old new
   pub err : IfErr result (λ fault. (fault ≡ Memory) ⊎ (fault ≡ Write))

@@ -2,4 +2,3 @@ pub mod Sources
 pub mod EventLines
 pub mod Explored
 pub mod FileViews
-pub mod Refused

@@ -1,17 +1,18 @@
 //! Explores a session, and writes what comes of it.
-ghost use Rattle.judge_explore.specs.Explored.{Explores, IsOwed, is_cycle, judged_as};
+ghost use Rattle.judge_explore.specs.Explored.{Explores, IsOwed, is_cycle};
 ghost use Rattle.judge_explore.specs.FileViews.{files_view};
 ghost use Rattle.judge_explore.specs.Sources.{StreamFile as SourceFile};
 ghost use Rattle.def_format.specs.Documents as documents;
 ghost use Rattle.def_format.specs.Limits.{worker_limit};
 ghost use Rattle.def_format.specs.Reports.{Refused};
 ghost use Rattle.def_judgement.specs.Writes.{Source as StreamSource, Writes};
+ghost use Rattle.pd_engine.specs.Ends.{IsGiven};
 ghost use Rattle.pd_report.specs.Views.{refusal_view};
 ghost use Rattle.judge_session.specs.Ends.{call_end};
 ghost use Rattle.judge_session.specs.Inquiries.{inquiry_view};
 ghost use Rattle.judge_session.specs.SessionReports.{IsReportOfInputs};
 ghost use Rattle.judge_session.specs.Unanswered.{IsUnanswered};
-ghost use Rattle.std.specs.Prelude.{◌≡◌, ◌⊎◌, ◌≤◌, ℕ, All, Bool, Err, IfErr, IfOk, List, MatchResult, Ok, Option, Some, false, is_some, map};
+ghost use Rattle.std.specs.Prelude.{◌≡◌, ◌⊎◌, ◌≤◌, All, IfErr, IfOk, List, false, map};
 
 use super::page::Page;
 use super::pages::page_of_session;
@@ -28,36 +29,16 @@ use std::random::RandomSource;
 use std::sync::Wait;
 use std::thread::Threads;
 
-/// The report of a refusal, if there is one.
-fn refusal_report(refusal: Option<Refusal>) -> Option<Report>
-    ensures { is_some result ≡ is_some refusal }
-{
-    match refusal {
-        Some(refusal) => Some(Report::Refused(refusal)),
-        None => None,
-    }
-}
-
-/// Writes the page of a session, and gives the report of its refusal, if it is refused.
-fn write_page<W: Write>(page: Page, writer: &mut W) -> Result<Option<Report>, EngineFault>
+/// Writes the page of a session, and gives the session's report.
+fn write_page<W: Write>(page: Page, writer: &mut W) -> Result<Report, EngineFault>
     ensures written { Writes (λ text. text ≡ page.text.items) (call_end result) (W.contents writer.old)
         (W.contents writer.new) }
-    ensures judged { IfOk result (λ report. is_some report ≡ is_some page.refusal) }
+    ensures report { IfOk result (λ report. report ≡ page.report) }
     ensures err { IfErr result (λ fault. fault ≡ EngineFault.Write) }
 {
-    let Page { text, refusal } = page;
+    let Page { text, report } = page;
     write_all(&text, writer)?;
-    Ok(refusal_report(refusal))
-}
-
-/// What an exploration gives of a session that is refused, with what came of its report.
-fn refused(written: Result<Report, EngineFault>) -> Result<Option<Report>, EngineFault>
-    ensures { MatchResult written (λ report. result ≡ Ok (Some report)) (λ fault. result ≡ Err fault) }
-{
-    match written {
-        Ok(report) => Ok(Some(report)),
-        Err(fault) => Err(fault),
-    }
+    Ok(report)
 }
 
 /// Whether a refusal is for a causal cycle.
@@ -70,17 +51,17 @@ fn is_cycle(refusal: &Refusal) -> bool
     }
 }
 
-/// Writes the report of a session that is refused, and gives it back. No refusal that comes here is for a causal cycle,
+/// Writes the report of a session that is refused, and gives it. No refusal that comes here is for a causal cycle,
 /// of which there is a page; of one that is nothing would be written.
 fn write_refusal<W: Write>(
     alloc: Global,
     unanswered: Unanswered,
     writer: &mut W,
-) -> Result<Option<Report>, EngineFault>
+) -> Result<Report, EngineFault>
     // It is owed of each inquiry and of readers of which it is the report, whatever the files.
     ensures written { (inquiry : documents.Inquiry) (files : List SourceFile) (inputs : List StreamSource)
         → IsUnanswered (IsReportOfInputs inquiry inputs) unanswered
-        → Writes (IsOwed inquiry files inputs (judged_as result)) (call_end result)
+        → Writes (IsOwed inquiry files inputs (IsGiven result)) (call_end result)
         (W.contents writer.old) (W.contents writer.new) }
     ensures err { IfErr result (λ fault. (fault ≡ EngineFault.Memory) ⊎ (fault ≡ EngineFault.Write)) }
 {
@@ -89,7 +70,7 @@ fn write_refusal<W: Write>(
             if is_cycle(&refusal) {
                 return Err(EngineFault::Memory);
             }
-            refused(write_report(alloc, Report::Refused(refusal), writer))
+            write_report(alloc, Report::Refused(refusal), writer)
         }
         Unanswered::Memory => Err(EngineFault::Memory),
     }
@@ -108,7 +89,7 @@ fn explore_by<
     files: &[StreamFile<'_>],
     readers: Vec<R>,
     writer: &mut W,
-) -> Result<Option<Report>, EngineFault>
+) -> Result<Report, EngineFault>
     requires { All (λ r. R.has_ended r ≡ false) readers.items }
     ensures { Explores (inquiry_view inquiry.entry) (files_view files.now) (map R.left readers.items) result
         (W.contents writer.old) (W.contents writer.new) }
@@ -120,11 +101,11 @@ fn explore_by<
 }
 
 /// Explores the session of an inquiry's document and of the streams: judges it, and writes its page, with the answers
-/// of its report. Of a session that is refused it gives the report back: for a causal cycle it writes a page that shows
-/// the cycle, and otherwise the report, and no page. The page says where each event was recorded, by these files. The
-/// streams are read each on its own thread; none is read if the document is refused, or if they are too many. A read
-/// that fails is a fault of its stream. The workers, from 1 to 16, and the gate change how long it takes, and nothing
-/// that is written.
+/// of its report, which it gives. Of a session that is refused for a causal cycle the page shows the cycle; of one that
+/// is refused otherwise the report is written, and no page. The page says where each event was recorded, by these
+/// files. The streams are read each on its own thread; none is read if the document is refused, or if they are too
+/// many. A read that fails is a fault of its stream. The workers, from 1 to 16, and the gate change how long it takes,
+/// and nothing that is written.
 ///
 /// # Errors
 /// `Memory` leaves nothing written. `Write` leaves a prefix of the text written, and not all of it.
@@ -142,7 +123,7 @@ pub fn explore<
     workers: u64,
     gate: &G,
     writer: &mut W,
-) -> Result<Option<Report>, EngineFault>
+) -> Result<Report, EngineFault>
     requires open { All (λ r. R.has_ended r ≡ false) readers.items }
     requires some_workers { 1 ≤ workers }
     requires few_workers { workers ≤ worker_limit }

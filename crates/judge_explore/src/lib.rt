@@ -4,7 +4,7 @@
 //! report. Of a session that is refused for a causal cycle a page is written too, which shows the cycle; of one that is
 //! refused otherwise the report, and no page.
 //!
-//! - `page`: the page of a session, with its refusal
+//! - `page`: the page of a session, with its report
 //! - `stream_file`: the files of a session's streams
 //! - `sources`: where the events of a session were recorded
 //! - `pages`: makes the page of a session

@@ -1,11 +1,12 @@
-//! The page of a session, with its refusal.
-use pd_report::Refusal;
+//! The page of a session, with its report.
+use pd_report::Report;
 
-/// The page of a session, and its refusal, if it is refused for a causal cycle, which the page shows.
+/// The page of a session, and the session's report: with the answers that the page shows, or the refusal for the causal
+/// cycle that it shows.
 #[derive(Drop)]
 pub(crate) struct Page {
     /// The page's text.
     pub(crate) text: Vec<u8>,
-    /// The refusal of the session, if it is refused.
-    pub(crate) refusal: Option<Refusal>,
+    /// The report.
+    pub(crate) report: Report,
 }

@@ -1,8 +1,8 @@
 //! The page of a session.
 ghost use Rattle.judge_explore.specs.Explored.{IsPageOfInputs, IsPageOfTraces};
 ghost use Rattle.judge_explore.specs.FileViews.{files_view};
-ghost use Rattle.judge_explore.specs.Refused.{IsRefusedBy};
 ghost use Rattle.def_format.specs.Reports.{Refused};
+ghost use Rattle.pd_engine.specs.Ends.{IsGiven};
 ghost use Rattle.pd_gather.specs.Views.{traces_view};
 ghost use Rattle.def_judgement.specs.Judgements.{IsTracesReport};
 ghost use Rattle.pd_match.specs.Views.{pairs_view};
@@ -18,7 +18,7 @@ ghost use Rattle.judge_session.specs.Unanswered.{IsUnanswered};
 ghost use Rattle.pd_spec.specs.Views.{document_view};
 ghost use Rattle.read_traces.specs.SessionTraces.{AreTraces};
 ghost use Rattle.read_traces.specs.Views.{computation_view};
-ghost use Rattle.std.specs.Prelude.{◌≡◌, All, IfErr, IfOk, false, map};
+ghost use Rattle.std.specs.Prelude.{◌≡◌, All, IfErr, IfOk, Ok, false, map};
 
 use super::page::Page;
 use super::sources::sources_of;
@@ -31,7 +31,7 @@ use pd_expand::Crew;
 use pd_gather::{ByteSource, read_streams};
 use pd_level::Gate;
 use pd_match::Place;
-use pd_report::{Answer, Refusal};
+use pd_report::{Answer, Refusal, Report};
 use pd_spec::Spec;
 use read_traces::Trace;
 use std::alloc::{AllocError, Global};
@@ -74,13 +74,18 @@ fn judged_page<S: RandomSource + Threads + Wait + Sync, G: Gate + Sync>(
     requires formed { AreWellFormed (document_view spec.now) (traces_view traces.now) built.now.0 built.now.1 }
     requires listed { IsMessageList (computation_view traces.now) (pairs_view pairs.now) }
     ensures { IfOk result (λ page. IsPageOfTraces (document_view spec.now) (sources_view sources.now)
-        (traces_view traces.now) (IsRefusedBy page.refusal) page.text.items) }
+        (traces_view traces.now) (IsGiven (Ok page.report)) page.text.items) }
 {
     let answers = answers_of(crew, alloc, spec, &built.0)?;
     let text = answers_text(alloc, spec, sources, traces, pairs, &answers)?;
     Ok(Page {
         text,
-        refusal: None,
+        report: Report::Judged {
+            processes: spec.names().processes() as u64,
+            events: built.0.total(),
+            messages: built.1,
+            answers,
+        },
     })
 }
 
@@ -119,7 +124,7 @@ fn refused_page(
     requires right { IsTracesReport (document_view spec.now) (traces_view traces.now)
         (Refused (refusal_view refusal)) }
     ensures page { IfOk result (λ page. IsPageOfTraces (document_view spec.now) (sources_view sources.now)
-        (traces_view traces.now) (IsRefusedBy page.refusal) page.text.items) }
+        (traces_view traces.now) (IsGiven (Ok page.report)) page.text.items) }
     ensures refused { IfErr result (IsUnanswered (IsTracesReport (document_view spec.now)
         (traces_view traces.now))) }
 {
@@ -128,7 +133,7 @@ fn refused_page(
             let text = cycle_text(alloc, spec, sources, traces, pairs, &places)?;
             Ok(Page {
                 text,
-                refusal: Some(Refusal::Cycle(places)),
+                report: Report::Refused(Refusal::Cycle(places)),
             })
         }
         other => Err(Unanswered::Refused(other)),
@@ -146,7 +151,7 @@ fn page_of_traces<S: RandomSource + Threads + Wait + Sync, G: Gate + Sync>(
 ) -> Result<Page, Unanswered>
     requires { AreTraces (document_view spec.now).names traces.now }
     ensures page { IfOk result (λ page. IsPageOfTraces (document_view spec.now) (sources_view sources.now)
-        (traces_view traces.now) (IsRefusedBy page.refusal) page.text.items) }
+        (traces_view traces.now) (IsGiven (Ok page.report)) page.text.items) }
     ensures refused { IfErr result (IsUnanswered (IsTracesReport (document_view spec.now)
         (traces_view traces.now))) }
 {
@@ -181,7 +186,7 @@ pub(crate) fn page_of_session<
 ) -> Result<Page, Unanswered>
     requires { All (λ r. R.has_ended r ≡ false) readers.items }
     ensures page { IfOk result (λ page. IsPageOfInputs (inquiry_view inquiry.entry) (files_view files.now)
-        (map R.left readers.items) (IsRefusedBy page.refusal) page.text.items) }
+        (map R.left readers.items) (IsGiven (Ok page.report)) page.text.items) }
     ensures refused { IfErr result (IsUnanswered
         (IsReportOfInputs (inquiry_view inquiry.entry) (map R.left readers.items))) }
 {

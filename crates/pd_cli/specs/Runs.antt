@@ -30,8 +30,9 @@ Leaves input files connections network_serves (DrawFiles options scope document 
 Leaves input files connections network_serves (ServeStreams options fail_on document port watchers wait keep) =
     By (LeavesOf options (files document) (MayBeUnread (files document ∷ []) (files document ∷ []))
     (OfNamed fail_on (OfConnections (connections port) (ServiceMayFail wait network_serves) (keep ≢ None) fail_on)))
-Leaves input files connections network_serves (ExploreFiles options document streams) =
-    By (SessionLeaves files options document streams (OfPage (AreFilesOf (bytes_in files) streams)))
+Leaves input files connections network_serves (ExploreFiles options fail_on document streams) =
+    By (SessionLeaves files options document streams
+    (λ sources. OfNamed fail_on (OfPage (AreFilesOf (bytes_in files) streams) sources fail_on)))
 Leaves input files connections network_serves ShowHelp = By HelpLeaves
 Leaves input files connections network_serves ShowVersion = By VersionLeaves
 Leaves input files connections network_serves Unclear = By MisuseLeaves

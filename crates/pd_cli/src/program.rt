@@ -19,11 +19,11 @@ use super::draw_files::{draw_files, report_drawing};
 use super::explanation::write_explanation;
 use super::explore_files::explore_files;
 use super::parser_error::report_parser_error;
-use app_arguments::{Exploration, Judgement, Request, Service, SessionNames, parse};
-use app_ends::{bundle_text, check_text, drawing_text, exploration_text, judgement_text};
+use app_arguments::{Judgement, Request, Service, SessionNames, parse};
+use app_ends::{bundle_text, check_text, drawing_text, judgement_text};
 use app_host::{
     FileSource, LevelGate, Network, NotedSource, Notes, System, World, check_files, judge_files,
-    report_bundle, report_end, report_exploration, report_judgement,
+    report_bundle, report_end, report_judgement,
 };
 use app_serve::{Host, Peers, report_service_end, serve, service_text};
 use out_picture::DrawOptions;
@@ -133,21 +133,22 @@ fn run_files<Y: System, O: Write, E: Write>(
 /// Explores the session in files, and gives the exit status.
 fn run_explore<Y: System, O: Write, E: Write>(
     world: &World<'_, Y>,
-    exploration: &Exploration<'_>,
+    judgement: &Judgement<'_>,
     output: &mut O,
     errors: &mut E,
 ) -> u8
     ensures { Explained world.now.explain (λ start. Ends (λ ending. SessionLeaves (Y.Files.file_of world.now.files.now)
-        (options_view exploration.now.names.options) exploration.now.names.spec.now
-        (session_view exploration.now.names).1
-        (OfPage (AreFilesOf (bytes_in (Y.Files.file_of world.now.files.now)) (session_view exploration.now.names).1))
-        ending (O.contents output.old) (O.contents output.new)) result start (E.contents errors.new))
-        (E.contents errors.old) }
+        (options_view judgement.now.names.options) judgement.now.names.spec.now (session_view judgement.now.names).1
+        (λ sources. OfNamed (fail_on_view judgement.now.fail_on)
+        (OfPage (AreFilesOf (bytes_in (Y.Files.file_of world.now.files.now)) (session_view judgement.now.names).1)
+        sources (fail_on_view judgement.now.fail_on))) ending (O.contents output.old)
+        (O.contents output.new)) result start (E.contents errors.new)) (E.contents errors.old) }
 {
-    let end = explore_files(world, exploration, output);
-    let text = exploration_text(world, exploration, &end);
+    let gate = LevelGate::new(world.files);
+    let end = explore_files(world, judgement, &gate, output);
+    let text = judgement_text(world, judgement, gate.widest(), &end);
     write_explanation(world.explain, &text, errors);
-    report_exploration(&end, errors)
+    report_judgement(&judgement.fail_on, &end, errors)
 }
 
 /// Judges the bundle on the input, and gives the exit status.
@@ -191,7 +192,7 @@ fn run_arguments<Y: System, I: ByteSource + Drop, O: Write, E: Write>(
             run_draw(world, report, &scope, &names, output, errors)
         }
         Ok(Request::Serve(service)) => { run_service(world, &service, output, errors) }
-        Ok(Request::Explore(exploration)) => { run_explore(world, &exploration, output, errors) }
+        Ok(Request::Explore(judgement)) => { run_explore(world, &judgement, output, errors) }
         Err(error) => report_parser_error(&error, output, errors),
     }
 }
@@ -213,7 +214,7 @@ fn without_first(arguments: &[String]) -> &[String]
 /// writes the picture to `output`; `serve`, with the name of a session document's file and a port, judges streams that
 /// come by connections; `explore`, with the names of `judge`, judges these and writes the page on which their run is
 /// explored, or the report of a refusal, to `output`; these three answer predicates beyond the width where they are
-/// decided, and `judge` and `serve` fail on answers, if that is asked for; the help that they ask for is written to
+/// decided, and fail on answers, if that is asked for; the help that they ask for is written to
 /// `output`, and what is wrong with them to `errors`. `errors` also has one line for each fault, and before it an
 /// explanation if one is wanted, as `explain` says; what of it can't be written is left off.
 pub fn run<

@@ -1,5 +1,5 @@
 -- The names of a session's files, a number of workers and conditions name a judgement, with what the flag says.
-use Rattle.std.proofs.Common.{inl, inr, option_map, subst, sym, Bool, Option}
+use Rattle.std.proofs.Common.{◌≡◌, inl, inr, option_map, subst, sym, Bool, Option}
 use Rattle.clap.specs.Matches.{found_of}
 use Rattle.clap.specs.Walk.{rows_of}
 use Rattle.std.specs.Prelude.{IfSome}

@@ -1,5 +1,5 @@
 -- With conditions a server is asked for, if all else is there.
-use Rattle.std.proofs.Common.{codes, inr, option_map, refl, subst, sym, Bool, Option}
+use Rattle.std.proofs.Common.{codes, inl, inr, option_map, refl, subst, sym, Bool, Option}
 use Rattle.clap.specs.Matches.{found_of}
 use Rattle.clap.specs.Walk.{rows_of}
 use Rattle.app_arguments.specs.ConditionViews.{fail_on_view}
@@ -9,7 +9,7 @@ use Rattle.app_arguments.proofs.arguments.serve_request.Goals as goal
 
 pub returns-in_default : goal.returns-in_default
 returns-in_default c arguments taken are =
-    of_no_conditions (codes "serve") (rows_of (found_of c.args.matches.now)) (inr refl) are
+    of_no_conditions (codes "serve") (rows_of (found_of c.args.matches.now)) (inr (inl refl)) are
     (subst (λ (fail_on : Option FailOn). FindsConditions (rows_of (found_of c.args.matches.now))
     (option_map fail_on_view fail_on)) c.in_default.is c.in_ok-fail_on.ensures)
 

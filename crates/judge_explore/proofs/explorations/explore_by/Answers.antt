@@ -6,16 +6,13 @@ use Rattle.judge_explore.proofs.Written.{page_written, write_only}
 use Rattle.judge_explore.proofs.explorations.explore_by.Goals as goal
 
 pub returns-in-Ok : goal.returns-in-Ok
-returns-in-Ok g c =
-    let asked = inquiry_view c.args.inquiry in
-    let files = files_view c.args.files.now in
-    let inputs = map g.R.ByteSource.left c.args.readers.items in
-    record {
-      written = page_written asked files inputs c.in-Ok.page.text.items c.in-Ok.page.refusal
-          c.write_page.result (g.W.Write.contents c.args.writer.now) (g.W.Write.contents c.write_page.new.writer)
-          c.in-Ok.ensures.page c.write_page.ensures.judged c.write_page.ensures.written;
-      err = write_only c.write_page.result c.write_page.ensures.err;
-    }
+returns-in-Ok g c = record {
+  written = page_written (inquiry_view c.args.inquiry) (files_view c.args.files.now)
+      (map g.R.ByteSource.left c.args.readers.items) c.in-Ok.page.text.items c.in-Ok.page.report c.write_page.result
+      (g.W.Write.contents c.args.writer.now) (g.W.Write.contents c.write_page.new.writer) c.in-Ok.ensures.page
+      c.write_page.ensures.report c.write_page.ensures.written;
+  err = write_only c.write_page.result c.write_page.ensures.err;
+}
 
 pub returns-in-Err : goal.returns-in-Err
 returns-in-Err g c = record {

@@ -1,5 +1,5 @@
 -- The page of a session's traces that are judged.
-use Rattle.std.proofs.Common.{List, ap, ◌∙◌, map}
+use Rattle.std.proofs.Common.{List, ap, length, ◌∙◌, map}
 use Rattle.pd_match.specs.Views.{pairs_view}
 use Rattle.out_page.specs.AnswerData.{Answered}
 use Rattle.out_page.specs.Pages.{page_text}
@@ -17,9 +17,10 @@ returns g c =
     let sources = sources_view c.args.sources.now in
     let events = computation_view c.args.traces.now in
     let pairs = pairs_view c.args.pairs.now in
-    traces_page document sources c.args.traces.now c.args.built.now.0 c.args.built.now.1
-    pairs (map answer_view c.in_ok-answers.answers.items) c.in_ok-text.text.items
-    c.requires.formed c.requires.listed c.in_ok-answers.ensures
+    traces_page document sources c.args.traces.now c.args.built.now.0 c.args.built.now.1 c.processes.result
+    c.total.result pairs (map answer_view c.in_ok-answers.answers.items) c.in_ok-text.text.items
+    c.requires.formed c.requires.listed c.in_ok-answers.ensures (c.processes.ensures ∙ ap length c.names.ensures)
+    c.total.ensures.sum
     (c.in_ok-text.ensures
     ∙ ap (λ (answers : List Answer). page_text document sources events pairs (Answered (map answer_view answers)))
     c.deref.ensures.value)

@@ -1,5 +1,5 @@
 -- The page of the session, or why it comes to no answers.
-use Rattle.std.proofs.Common.{◌≡◌, ◌∙◌, List, ap, map, subst}
+use Rattle.std.proofs.Common.{◌≡◌, ◌∙◌, List, Ok, ap, map, subst}
 use Rattle.std.specs.Prelude.{IfErr, IfOk}
 use Rattle.std.proofs.lemmas.Result.{IfOk-weaker}
 use Rattle.def_format.specs.Reports.{Report}
@@ -10,6 +10,7 @@ use Rattle.out_page.specs.Views.{sources_view}
 use Rattle.out_page.specs.declared.source.Source.{Source}
 use Rattle.pd_spec.specs.Views.{document_view}
 use Rattle.judge_session.specs.Inquiries.{inquiry_view}
+use Rattle.pd_engine.specs.Ends.{IsGiven}
 use Rattle.judge_session.specs.SessionReports.{IsReportOfInputs}
 use Rattle.judge_session.specs.Unanswered.{IsUnanswered}
 use Rattle.judge_session.proofs.SessionReports.{inputs_report, refusal_given, refused_inputs_report, traces_report}
@@ -19,7 +20,6 @@ use Rattle.read_traces.specs.declared.event.Trace.{Trace}
 use Rattle.judge_explore.specs.FileViews.{files_view}
 use Rattle.judge_explore.specs.Sources.{sources_of}
 use Rattle.judge_explore.specs.Explored.{IsPageOfInputs, IsPageOfTraces}
-use Rattle.judge_explore.specs.Refused.{IsRefusedBy}
 use Rattle.judge_explore.proofs.SessionPages.{inputs_page, refused_weaker}
 use Rattle.judge_explore.proofs.pages.page_of_session.Goals as goal
 
@@ -62,17 +62,17 @@ returns-clause-page g c =
     ∙ ap (λ (events : Computation). sources_of document.names files events)
     (same_events c.in_ok-traces.traces.items) in
     IfOk-weaker c.page_of_traces.result
-    (λ page. IsPageOfTraces document sources traces (IsRefusedBy page.refusal) page.text.items)
-    (λ page. IsPageOfInputs asked files inputs (IsRefusedBy page.refusal) page.text.items)
+    (λ page. IsPageOfTraces document sources traces (IsGiven (Ok page.report)) page.text.items)
+    (λ page. IsPageOfInputs asked files inputs (IsGiven (Ok page.report)) page.text.items)
     (λ page is. inputs_page asked files inputs document count results sources traces
-    (IsRefusedBy page.refusal) page.text.items
+    (IsGiven (Ok page.report)) page.text.items
     c.in_ok-spec.ensures.read c.in_ok-gathered.ensures.given c.in_ok-traces.ensures.joined recorded is)
     (subst (λ (all : List Trace). IfOk c.page_of_traces.result
-    (λ page. IsPageOfTraces document sources (traces_view all) (IsRefusedBy page.refusal) page.text.items))
+    (λ page. IsPageOfTraces document sources (traces_view all) (IsGiven (Ok page.report)) page.text.items))
     c.deref-3.ensures.value
     (subst (λ (found : List Source). IfOk c.page_of_traces.result
     (λ page. IsPageOfTraces document (sources_view found) (traces_view c.deref-3.result.now)
-    (IsRefusedBy page.refusal) page.text.items)) c.deref-2.ensures.value c.page_of_traces.ensures.page))
+    (IsGiven (Ok page.report)) page.text.items)) c.deref-2.ensures.value c.page_of_traces.ensures.page))
 
 pub returns-clause-refused : goal.returns-clause-refused
 returns-clause-refused g c =

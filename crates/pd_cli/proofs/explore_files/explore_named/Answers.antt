@@ -20,27 +20,33 @@ returns-in-Ok g c =
     let inputs = map g.R.ByteSource.left c.args.streams.items in
     let old = g.O.Write.contents c.args.output.now in
     let new = g.O.Write.contents c.explore_read.new.output in
-    let AreFiles = AreFilesOf (bytes_in (g.Y.Files.FileSource.file_of c.args.world.now.files.now))
-    (session_view c.args.judgement.now.names).1 in
+    let bytes_of = bytes_in (g.Y.Files.FileSource.file_of c.args.world.now.files.now) in
+    let AreFiles = AreFilesOf bytes_of (session_view c.args.judgement.now.names).1 in
+    let found : AreFiles (files_view c.deref-2.result.now) =
+    subst (λ (all : List Used). AreFiles (files_view all)) (sym c.deref-2.ensures.value)
+    (subst (λ (all : List (Bor (List ℕ))). AreFilesOf bytes_of (map (λ (name : Bor (List ℕ)). name.now) all)
+    (files_view c.in_ok-sources.sources.items)) c.deref.ensures.value c.in_ok-sources.ensures) in
     with_named fail_on (OfPage AreFiles inputs fail_on) asked old new
     (c.in_ok-has_named.ensures.yes c.if-not-branch.false) (λ never. never)
     (judgement_ending fail_on (Ok c.in-Ok.report))
     (left_with_files asked (files_view c.deref-2.result.now) inputs AreFiles
-    (subst (λ (all : List Used). AreFiles (files_view all)) (sym c.deref-2.ensures.value) c.in_ok-sources.ensures)
-    fail_on old new (judgement_ending fail_on (Ok c.in-Ok.report)) (c.in-Ok.ensures.written fail_on))
+    found fail_on old new (judgement_ending fail_on (Ok c.in-Ok.report)) (c.in-Ok.ensures.written fail_on))
 
-pub returns-in-Err : goal.returns-in-Err
-returns-in-Err g c =
+pub returns : goal.returns
+returns g c =
     let fail_on = fail_on_view c.args.judgement.now.fail_on in
     let asked = inquiry_view c.args.inquiry in
     let inputs = map g.R.ByteSource.left c.args.streams.items in
     let old = g.O.Write.contents c.args.output.now in
     let new = g.O.Write.contents c.explore_read.new.output in
-    let AreFiles = AreFilesOf (bytes_in (g.Y.Files.FileSource.file_of c.args.world.now.files.now))
-    (session_view c.args.judgement.now.names).1 in
+    let bytes_of = bytes_in (g.Y.Files.FileSource.file_of c.args.world.now.files.now) in
+    let AreFiles = AreFilesOf bytes_of (session_view c.args.judgement.now.names).1 in
+    let found : AreFiles (files_view c.deref-2.result.now) =
+    subst (λ (all : List Used). AreFiles (files_view all)) (sym c.deref-2.ensures.value)
+    (subst (λ (all : List (Bor (List ℕ))). AreFilesOf bytes_of (map (λ (name : Bor (List ℕ)). name.now) all)
+    (files_view c.in_ok-sources.sources.items)) c.deref.ensures.value c.in_ok-sources.ensures) in
     with_named fail_on (OfPage AreFiles inputs fail_on) asked old new
     (c.in_ok-has_named.ensures.yes c.if-not-branch.false) (λ never. never)
     (judgement_ending fail_on (Err c.in-Err.fault))
     (left_with_files asked (files_view c.deref-2.result.now) inputs AreFiles
-    (subst (λ (all : List Used). AreFiles (files_view all)) (sym c.deref-2.ensures.value) c.in_ok-sources.ensures)
-    fail_on old new (judgement_ending fail_on (Err c.in-Err.fault)) (c.in-Err.ensures.written fail_on))
+    found fail_on old new (judgement_ending fail_on (Err c.in-Err.fault)) (c.in-Err.ensures.written fail_on))

@@ -3,7 +3,7 @@ use Rattle.std.proofs.Common.{ap, ◌∙◌}
 use Rattle.std.proofs.lemmas.Result.{IfOk-weaker}
 use Rattle.app_arguments.specs.Arguments.{judging_app}
 use Rattle.app_arguments.proofs.Builders.{with_argument}
-use Rattle.app_arguments.proofs.commands.judge_command.Goals as goal
+use Rattle.app_arguments.proofs.commands.files_command.Goals as goal
 
 pub judging_command-requires : goal.judging_command-requires
 judging_command-requires c =
