@@ -1,0 +1,3 @@
+pub mod JsonReports
+pub mod ReportLaws
+pub mod Utf8Names
