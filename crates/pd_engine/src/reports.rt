@@ -9,6 +9,7 @@ ghost use Rattle.pd_gather.specs.Views.{ReadingFits, results_view};
 ghost use Rattle.def_judgement.specs.Headline.{IsNarrow, ReportAgrees, TellsTruth, each_decided, each_predicate};
 ghost use Rattle.def_judgement.specs.Judgements.{IsReportOfResults, events_of_traces};
 ghost use Rattle.def_model.specs.Order.{IsWellFormed};
+ghost use Rattle.pd_engine.specs.SessionReports.{IsTrueReportOfInputs};
 ghost use Rattle.pd_report.specs.Views.{report_view};
 ghost use Rattle.pd_spec.specs.Views.{document_view};
 ghost use Rattle.std.specs.Prelude.{◌≡◌, ◌≤◌, All, IfOk, IfSome, IsOkUnless, List, Ok, false, map, true};
@@ -18,7 +19,7 @@ use judge_session::{
     EngineFault, Inquiry, Unanswered, computation_of, read_inquiry, settled, traces_of,
 };
 use pd_expand::Crew;
-use pd_gather::{ByteSource, Gathered, Observer, read_streams_watched};
+use pd_gather::{ByteSource, Gathered, NoObserver, Observer, read_streams_watched};
 use pd_level::Gate;
 use pd_report::Report;
 use pd_spec::Spec;
@@ -158,4 +159,36 @@ pub(crate) fn streams_report<
     ensures err { IsOkUnless result EngineFault.Memory }
 {
     settled(session_report(crew, alloc, inquiry, readers, observer))
+}
+
+/// The report of a session of an inquiry's document and of what the streams' readers give, as `judge_inquiry` writes
+/// it: the first refusal, or an answer for each predicate. The streams are read each on its own thread; none is read if
+/// the document is refused, or if they are too many. A read that fails is a fault of its stream. The workers, from 1 to
+/// 16, and the gate change how long it takes, and nothing of the report.
+///
+/// # Errors
+/// `Memory`.
+pub fn report_inquiry<
+    S: RandomSource + Threads + Wait + Sync,
+    R: ByteSource + Send + Drop,
+    G: Gate + Sync,
+>(
+    rt: &S,
+    alloc: Global,
+    inquiry: Inquiry<'_, '_, '_>,
+    readers: Vec<R>,
+    workers: u64,
+    gate: &G,
+) -> Result<Report, EngineFault>
+    requires open { All (λ r. R.has_ended r ≡ false) readers.items }
+    requires some_workers { 1 ≤ workers }
+    requires few_workers { workers ≤ worker_limit }
+    // The report is the one that the definitions give, and it is true.
+    ensures report { IfOk result (λ report. IsTrueReportOfInputs (inquiry_view inquiry.entry)
+        (map R.left readers.items) (report_view report)) }
+    ensures err { IsOkUnless result EngineFault.Memory }
+{
+    def_judgement::judgement_is_true();
+    let crew = Crew::new(rt, workers, gate);
+    streams_report(&crew, alloc, inquiry, readers, None::<&NoObserver>)
 }
