@@ -1,0 +1,1 @@
+-- The modules of lemmas of this crate.

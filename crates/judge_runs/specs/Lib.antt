@@ -1,0 +1,4 @@
+pub mod Wishes
+pub mod Runs
+pub mod Views
+pub mod Tallies
