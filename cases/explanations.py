@@ -309,6 +309,8 @@ def answers():
     yield unknown._replace(name="a condition is met by what is unknown", words=(*unknown.words, "--fail-on", "unknown"))
     yield paged(session("answers of which a page is written", a=EARLY, b=TAKES))
     yield paged(session("a condition is met by what a page shows", a=EARLY, b=TAKES, words=("--fail-on", "possibly")))
+    yield session("answers that are written as JSON", a=EARLY, b=TAKES, words=("--format", "json"))
+    yield session("a recorded run fails", a=EARLY, b=TAKES)._replace(words=("test", "."))
     yield session("an answer about streams on standard input", input=TAKES.encode(), a=EARLY)._replace(
         words=("judge", "session.json", "a.stream", "-"))
     yield Case("an answer about a bundle", input=bundle(document(), EARLY, TAKES))
@@ -350,6 +352,7 @@ def faults():
     good = session("the report isn't there")
     yield good._replace(words=("check", "session.json", "report", "a.stream", "b.stream"))
     yield session("the output is full")._replace(output="/dev/full")
+    yield session("the output of a test is full")._replace(words=("test", "."), output="/dev/full")
     yield good._replace(name="there is no predicate of that name", files={**good.files, "report": REPORT},
                         words=("draw", "session.json", "report", "a.stream", "b.stream", "--predicate", "bot"))
     yield session("there is no predicate of that name to fail on", words=("--fail-on", "bot:possibly"))

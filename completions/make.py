@@ -19,13 +19,17 @@ ROOT = os.path.dirname(HERE)
 CONDITIONS = ["possibly", "possibly-no", "definitely", "definitely-no", "unknown"]
 # What each value of an option may be: words; or None, if any text is.
 VALUES = {
+    "ALWAYS": None,
     "COLUMN": None,
     "FOLDER": None,
+    "FORMAT": ["text", "json"],
     "KIND": ["possibly", "definitely"],
     "LIST": CONDITIONS,
+    "NEVER": None,
     "PORT": None,
     "PREDICATE": None,
     "SECONDS": None,
+    "SOMETIMES": None,
     "TEXT": None,
     "WATCHERS": None,
     "WIDTH": None,
@@ -299,15 +303,19 @@ def is_there(shell):
 
 def wrong_completions(files):
     """The lines that bash completes otherwise than it should, and fish, if it is there; and what zsh can't read."""
-    every = ["judge", "check", "draw", "serve", "explore", "help", "-h", "--help", "-V", "--version", "--explain"]
+    every = ["judge", "check", "draw", "serve", "explore", "test", "help", "-h", "--help", "-V", "--version",
+             "--explain"]
     wanted = {
         "monitor ": every,
         "monitor j": ["judge"],
         "monitor --v": ["--version"],
         "monitor --explain ju": ["judge"],
         "monitor --explain draw session report a --evidence ": ["possibly", "definitely"],
-        "monitor judge -": ["--width", "--ask", "--workers", "--beyond-width", "--fail-on", "-h", "--help", "--explain"],
-        "monitor judge --f": ["--fail-on"],
+        "monitor judge -": [
+            "--width", "--ask", "--workers", "--beyond-width", "--fail-on", "--format", "-h", "--help", "--explain"],
+        "monitor judge --fa": ["--fail-on"],
+        "monitor judge session --format ": ["text", "json"],
+        "monitor test --n": ["--never"],
         "monitor judge session --fail-on ": CONDITIONS,
         "monitor judge session --fail-on possibly,u": ["possibly,unknown"],
         "monitor judge session --fail-on both:defin": ["definitely", "definitely-no"],

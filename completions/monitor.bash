@@ -24,7 +24,7 @@ _monitor() {
   case "$current" in --*=*) previous="${current%%=*}" current="${current#*=}" ;; esac
   COMPREPLY=()
   if [ "${#words[@]}" -le 2 ]; then
-    COMPREPLY=($(compgen -W 'judge check draw serve explore help --explain -h --help -V --version' -- "$current"))
+    COMPREPLY=($(compgen -W 'judge check draw serve explore test help --explain -h --help -V --version' -- "$current"))
     return
   fi
   case "$previous" in
@@ -37,6 +37,9 @@ _monitor() {
       return ;;
     --fail-on)
       _monitor_conditions "$current"
+      return ;;
+    --format)
+      COMPREPLY=($(compgen -W 'text json' -- "$current"))
       return ;;
     --predicate)
       return ;;
@@ -53,15 +56,22 @@ _monitor() {
       return ;;
     --keep)
       return ;;
+    --never)
+      return ;;
+    --always)
+      return ;;
+    --sometimes)
+      return ;;
   esac
   case "$command" in
-    judge) options='--explain --width --ask --workers --beyond-width --fail-on -h --help' ;;
+    judge) options='--explain --width --ask --workers --beyond-width --fail-on --format -h --help' ;;
     check) options='--explain --width --ask -h --help' ;;
     draw) options='--explain --width --ask --predicate --evidence --from --all -h --help' ;;
     serve) options='--explain --width --ask --port --watchers --wait --keep --workers --beyond-width --fail-on -h --help' ;;
     explore) options='--explain --width --ask --workers --beyond-width --fail-on -h --help' ;;
+    test) options='--explain --width --ask --workers --never --always --sometimes -h --help' ;;
     help)
-      COMPREPLY=($(compgen -W 'judge check draw serve explore help' -- "$current"))
+      COMPREPLY=($(compgen -W 'judge check draw serve explore test help' -- "$current"))
       return ;;
     *) return ;;
   esac

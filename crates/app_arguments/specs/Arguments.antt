@@ -11,12 +11,15 @@ use Rattle.clap.specs.declared.error.kind.ErrorKind.TheVariants.{DisplayHelp, Di
 use Rattle.def_format.specs.Documents.{Options}
 use Rattle.def_format.specs.Limits.{width_limit, worker_limit}
 use Rattle.app_arguments.specs.Conditions.{AreLawful, Condition, list_text}
+use Rattle.app_arguments.specs.Formats.{Format, Plain, Json}
+use Rattle.app_arguments.specs.Wishes.{wishes_of}
+use Rattle.judge_runs.specs.Wishes.{Wish}
 use Rattle.out_picture.specs.Scopes.{Scope}
 use Rattle.out_picture.specs.declared.extent.Extent.{Extent}
 use Rattle.out_picture.specs.declared.extent.Extent.TheVariants.{Around, From, All}
 use Rattle.out_picture.specs.declared.kind.Kind.{Kind}
 use Rattle.out_picture.specs.declared.kind.Kind.TheVariants.{Possibly, Definitely}
-use Rattle.app_arguments.specs.Statuses.{Request, JudgeInput, JudgeFiles, CheckFiles, DrawFiles, ServeStreams, ExploreFiles, ShowHelp, ShowVersion, Unclear}
+use Rattle.app_arguments.specs.Statuses.{Request, JudgeInput, JudgeFiles, CheckFiles, DrawFiles, ServeStreams, ExploreFiles, TestRuns, ShowHelp, ShowVersion, Unclear}
 
 -- ---- limits
 
@@ -42,11 +45,23 @@ column_number_limit = 4294967295
 abbrev pub required_rule : Text → Rule
 required_rule id = record (new_rule id) { required = true }
 
--- one name or more
-abbrev pub stream_rule : Rule
-stream_rule = record (required_rule (codes "STREAM")) {
+-- an argument of one name or more
+abbrev pub names_rule : (id : Text) → Rule
+names_rule id = record (required_rule id) {
   range = Some (record { start_inclusive = 1; end_inclusive = usize_max });
 }
+
+-- the names of the streams' files
+abbrev pub stream_rule : Rule
+stream_rule = names_rule (codes "STREAM")
+
+-- the names of the folders of recorded runs
+abbrev pub run_rule : Rule
+run_rule = names_rule (codes "RUN")
+
+-- an option of this name with a text, again and again
+abbrev pub texts_rule : (id name : Text) → Rule
+texts_rule id name = record (new_rule id) { long = Some name; action = Some Append }
 
 -- an option of this name with a number in this range
 abbrev pub number_rule : (id name : Text) (least most : ℕ) → Rule
@@ -92,7 +107,23 @@ explain_rule = record (new_rule (codes "EXPLAIN")) { long = Some (codes "explain
 
 -- a predicate in place of the document's, again and again
 abbrev pub ask_rule : Rule
-ask_rule = record (new_rule (codes "TEXT")) { long = Some (codes "ask"); action = Some Append }
+ask_rule = texts_rule (codes "TEXT") (codes "ask")
+
+-- the name of a predicate that is never to hold, again and again
+abbrev pub never_rule : Rule
+never_rule = texts_rule (codes "NEVER") (codes "never")
+
+-- of one that is to hold in every observation
+abbrev pub always_rule : Rule
+always_rule = texts_rule (codes "ALWAYS") (codes "always")
+
+-- of one that is to hold in some observation
+abbrev pub sometimes_rule : Rule
+sometimes_rule = texts_rule (codes "SOMETIMES") (codes "sometimes")
+
+-- the format of a report
+abbrev pub format_rule : Rule
+format_rule = record (new_rule (codes "FORMAT")) { long = Some (codes "format") }
 
 -- the name of a predicate
 abbrev pub predicate_rule : Rule
@@ -110,11 +141,13 @@ from_rule = number_rule (codes "COLUMN") (codes "from") 1 column_number_limit
 abbrev pub all_rule : Rule
 all_rule = record (new_rule (codes "ALL")) { long = Some (codes "all"); action = Some SetTrue }
 
--- `NAME SPEC [--explain] [--width WIDTH] [--ask TEXT]...`: all that follow have these three options
+-- a command line with `[--explain] [--width WIDTH] [--ask TEXT]...`: all commands have these three options
+abbrev pub asking_app : App → App
+asking_app app = with_rule (with_rule (with_rule app explain_rule) width_rule) ask_rule
+
+-- `NAME SPEC`, with these
 abbrev pub document_app : (name : Text) → App
-document_app name =
-    with_rule (with_rule (with_rule (with_rule (new_app name) (required_rule (codes "SPEC"))) explain_rule) width_rule)
-    ask_rule
+document_app name = asking_app (with_rule (new_app name) (required_rule (codes "SPEC")))
 
 -- `NAME SPEC REPORT STREAM...`
 abbrev pub report_app : (name : Text) → App
@@ -127,6 +160,10 @@ judging_app app = with_rule (with_rule (with_rule app workers_rule) beyond_width
 -- `NAME SPEC STREAM... [--workers WORKERS] [--beyond-width] [--fail-on LIST]`, for `judge` and `explore`
 abbrev pub files_app : (name : Text) → App
 files_app name = judging_app (with_rule (document_app name) stream_rule)
+
+-- `judge SPEC STREAM... [--format FORMAT]`, with all of these
+abbrev pub judge_app : App
+judge_app = with_rule (files_app (codes "judge")) format_rule
 
 -- `check SPEC REPORT STREAM...`
 abbrev pub check_app : App
@@ -143,6 +180,11 @@ abbrev pub serve_app : App
 serve_app = judging_app (with_rule (with_rule (with_rule (with_rule (document_app (codes "serve")) port_rule)
     watchers_rule) wait_rule) keep_rule)
 
+-- `test RUN... [--workers WORKERS] [--never NEVER]... [--always ALWAYS]... [--sometimes SOMETIMES]...`
+abbrev pub test_app : App
+test_app = with_rule (with_rule (with_rule (with_rule (asking_app (with_rule (new_app (codes "test")) run_rule))
+    workers_rule) never_rule) always_rule) sometimes_rule
+
 -- `[--explain]`: the program alone, with a version; its name isn't among the arguments that are parsed
 abbrev pub plain_shape : Shape
 plain_shape = record (new_app (codes "monitor")).top { no_binary_name = true; has_version = true }
@@ -152,8 +194,9 @@ plain_app = with_rule (record { top = plain_shape; subs = [] }) explain_rule
 
 -- with its commands
 abbrev pub monitor_app : App
-monitor_app = with_subcommand (with_subcommand (with_subcommand (with_subcommand (with_subcommand plain_app
-    (files_app (codes "judge")).top) check_app.top) draw_app.top) serve_app.top) (files_app (codes "explore")).top
+monitor_app = with_subcommand (with_subcommand (with_subcommand (with_subcommand (with_subcommand (with_subcommand
+    plain_app judge_app.top) check_app.top) draw_app.top) serve_app.top) (files_app (codes "explore")).top)
+    test_app.top
 
 -- a command line that is another one with this command too
 abbrev pub AddsCommand : {E : Type 0} → (old : Command) → Result Command E → (new : Command) → Type 0
@@ -241,15 +284,19 @@ NamesWait rows wait = MayNameNumber rows (codes "SECONDS") wait
 abbrev pub NamesKeep : List Row → (keep : Option Text) → Type 0
 NamesKeep rows keep = first_of (codes "FOLDER") rows ≡ keep
 
--- the texts of predicates that are asked for: none if no option has one
-abbrev pub NamesPredicates : Option (List Text) → (texts : List Text) → Type 0
-NamesPredicates None texts = texts ≡ []
-NamesPredicates (Some found) texts = texts ≡ found
+-- the texts of an option that is given again and again: none if it isn't given
+abbrev pub texts_in : Option (List Text) → List Text
+texts_in None = []
+texts_in (Some found) = found
+
+-- the texts of the option of this id
+abbrev pub texts_of : List Row → (id : Text) → List Text
+texts_of rows id = texts_in (all_of id rows)
 
 -- what is asked beside the document, but for whether what is decided whatever the width is
 pub record NamesOptions (rows : List Row) (options : Options) : Type 0 where
   pub names_width : NamesWidth rows options.width
-  pub names_predicates : NamesPredicates (all_of (codes "TEXT") rows) options.predicates
+  pub names_predicates : options.predicates ≡ texts_of rows (codes "TEXT")
 
 -- the conditions of a list, or none if there is no list
 abbrev pub AreConditions : Option Text → List Condition → Type 0
@@ -273,6 +320,36 @@ pub record NamesJudgement (rows : List Row) (document : Text) (streams : List Te
   pub workers : ℕ
   pub names_workers : NamesWorkers rows workers
   pub names_conditions : NamesConditions rows fail_on
+
+-- the format of this word, or lines of text if there is no word
+abbrev pub IsFormatOf : Option Text → Format → Type 0
+IsFormatOf None Plain = Unit {0}
+IsFormatOf (Some text) Plain = text ≡ codes "text"
+IsFormatOf (Some text) Json = text ≡ codes "json"
+IsFormatOf _ _ = ⊥
+
+-- the format of the report
+abbrev pub NamesFormat : List Row → Format → Type 0
+NamesFormat rows format = IsFormatOf (first_of (codes "FORMAT") rows) format
+
+-- there is a word, and it is that of no format
+abbrev pub LacksFormat : List Row → Type 0
+LacksFormat rows = (format : Format) → ¬ NamesFormat rows format
+
+-- the names of the folders of recorded runs
+abbrev pub NamesRuns : List Row → (runs : List Text) → Type 0
+NamesRuns rows runs = all_of (codes "RUN") rows ≡ Some runs
+
+-- the folders of recorded runs, with what is asked beside their documents, and what is wished of their predicates
+pub record NamesTest (rows : List Row) (runs : List Text) (options : Options) (wishes : List Wish) : Type 0 where
+  pub names_runs : NamesRuns rows runs
+  pub names_options : NamesOptions rows options
+  -- what is decided whatever the width is always asked for
+  pub any_width : options.beyond_width ≡ true
+  pub workers : ℕ
+  pub names_workers : NamesWorkers rows workers
+  pub are_wishes : wishes ≡ wishes_of (texts_of rows (codes "NEVER")) (texts_of rows (codes "ALWAYS"))
+      (texts_of rows (codes "SOMETIMES"))
 
 -- the name of a session document's file, the port of the streams, and the number of watchers
 pub record NamesService (rows : List Row) (document : Text) (port watchers : ℕ) : Type 0 where
@@ -334,9 +411,13 @@ TakesStreams command = (command ≡ codes "judge") ⊎ (command ≡ codes "check
 abbrev pub TakesReport : (command : Text) → Type 0
 TakesReport command = (command ≡ codes "check") ⊎ (command ≡ codes "draw")
 
--- the commands that judge, by a number of workers and under conditions
+-- the commands that judge under conditions
 abbrev pub IsJudging : (command : Text) → Type 0
 IsJudging command = (command ≡ codes "judge") ⊎ (command ≡ codes "serve") ⊎ (command ≡ codes "explore")
+
+-- the commands that judge by a number of workers
+abbrev pub TakesWorkers : (command : Text) → Type 0
+TakesWorkers command = IsJudging command ⊎ (command ≡ codes "test")
 
 -- What the arguments ask for. If they are taken, it is what their command is for, and with no command the bundle on the
 -- input is judged. Arguments that are not taken ask for a text that is shown, or have some other fault; and so have
@@ -347,11 +428,12 @@ pub data AsksFor (arguments : List Text) : Request → Type 0 where
       → ¬ ((rows : List Row) × AreOf (codes "check") arguments rows)
       → ¬ ((rows : List Row) × AreOf (codes "draw") arguments rows)
       → ¬ ((rows : List Row) × AreOf (codes "serve") arguments rows)
-      → ¬ ((rows : List Row) × AreOf (codes "explore") arguments rows) → AsksFor arguments JudgeInput
+      → ¬ ((rows : List Row) × AreOf (codes "explore") arguments rows)
+      → ¬ ((rows : List Row) × AreOf (codes "test") arguments rows) → AsksFor arguments JudgeInput
   of_judge : (rows : List Row) (document : Text) (streams : List Text) (options : Options) (fail_on : List Condition)
-      → AreTaken arguments → AreOf (codes "judge") arguments rows
-      → NamesJudgement rows document streams options fail_on
-      → AsksFor arguments (JudgeFiles options fail_on document streams)
+      (format : Format) → AreTaken arguments → AreOf (codes "judge") arguments rows
+      → NamesJudgement rows document streams options fail_on → NamesFormat rows format
+      → AsksFor arguments (JudgeFiles options fail_on format document streams)
   of_check : (rows : List Row) (document report : Text) (streams : List Text) (options : Options)
       → AreTaken arguments → AreOf (codes "check") arguments rows → NamesSession rows document streams
       → NamesOptions rows options → options.beyond_width ≡ false → NamesReport rows report
@@ -370,6 +452,9 @@ pub data AsksFor (arguments : List Text) : Request → Type 0 where
       (fail_on : List Condition) → AreTaken arguments → AreOf (codes "explore") arguments rows
       → NamesJudgement rows document streams options fail_on
       → AsksFor arguments (ExploreFiles options fail_on document streams)
+  of_test : (rows : List Row) (runs : List Text) (options : Options) (wishes : List Wish) → AreTaken arguments
+      → AreOf (codes "test") arguments rows → NamesTest rows runs options wishes
+      → AsksFor arguments (TestRuns options wishes runs)
   of_help : HasFault arguments DisplayHelp → AsksFor arguments ShowHelp
   of_version : HasFault arguments DisplayVersion → AsksFor arguments ShowVersion
   of_fault : (kind : ErrorKind) → ¬ IsShownKind kind → HasFault arguments kind → AsksFor arguments Unclear
@@ -379,10 +464,14 @@ pub data AsksFor (arguments : List Text) : Request → Type 0 where
       → ¬ ((report : Text) × NamesReport rows report) → AsksFor arguments Unclear
   of_missing_service : (rows : List Row) → AreOf (codes "serve") arguments rows → LacksService rows
       → AsksFor arguments Unclear
-  of_missing_workers : (command : Text) (rows : List Row) → IsJudging command → AreOf command arguments rows
+  of_missing_runs : (rows : List Row) → AreOf (codes "test") arguments rows
+      → ((runs : List Text) → ¬ NamesRuns rows runs) → AsksFor arguments Unclear
+  of_missing_workers : (command : Text) (rows : List Row) → TakesWorkers command → AreOf command arguments rows
       → LacksWorkers rows → AsksFor arguments Unclear
   of_no_conditions : (command : Text) (rows : List Row) → IsJudging command → AreOf command arguments rows
       → LacksConditions rows → AsksFor arguments Unclear
+  of_no_format : (rows : List Row) → AreOf (codes "judge") arguments rows → LacksFormat rows
+      → AsksFor arguments Unclear
   of_no_scope : (rows : List Row) → AreOf (codes "draw") arguments rows → LacksScope rows → AsksFor arguments Unclear
 
 -- A parse that gives no request says why by its error: the help or the version is asked for, or something is wrong; or
@@ -405,6 +494,11 @@ FindsConditions rows (Some conditions) = NamesConditions rows conditions
 -- there is no judgement of files for one of these reasons
 abbrev pub LacksJudgement : List Row → Type 0
 LacksJudgement rows = LacksWorkers rows ⊎ LacksSession rows ⊎ LacksConditions rows
+
+-- the format that is named, or that it is none's
+abbrev pub FindsFormat : List Row → Option Format → Type 0
+FindsFormat rows None = LacksFormat rows
+FindsFormat rows (Some format) = NamesFormat rows format
 
 -- how much of the run is asked for by the number of a column, if there is one, and by the flag
 abbrev pub extent_by : Option ℕ → (all : Bool) → Option Extent

@@ -1,11 +1,9 @@
 -- The answers that a script asks to fail on: conditions, the text of a list of them, the names in it, and what a report
 -- comes to.
-use Rattle.std.specs.Prelude.{ℕ, ◌<◌, ◌&&◌, ◌||◌, not, Bool, true, false, if◌then◌else◌, List, [], ◌∷◌, ◌++◌, codes, filter, flat_map, length, map, Option, Some, None, IfSome}
+use Rattle.std.specs.Prelude.{ℕ, ◌<◌, ◌&&◌, ◌||◌, Bool, true, false, if◌then◌else◌, List, [], ◌∷◌, ◌++◌, codes, filter, flat_map, length, map, Option, Some, None, IfSome}
 use Rattle.std.specs.List.{AllByRecursion, list_any}
-use Rattle.std.specs.Str.{bytes_eq}
-use Rattle.def_format.specs.Documents.{NamedPredicate}
-use Rattle.def_format.specs.Lists.{is_one_of}
 use Rattle.def_format.specs.Reports.{Answer, Possibly, Definitely, Report, Judged, Refused, IsName, with_commas}
+use Rattle.judge_runs.specs.Wishes.{is_definitely_yes, is_for, is_possibly_no, is_possibly_yes, lacks_name}
 
 -- ---- what is asked for
 
@@ -60,15 +58,6 @@ list_text conditions = with_commas (map condition_text conditions)
 
 -- ---- the names in a list
 
--- the names of predicates
-abbrev pub names_of : List NamedPredicate → List (List ℕ)
-names_of predicates = map (λ (predicate : NamedPredicate). predicate.name) predicates
-
--- none of these is this name; of any predicate there is no name to look up
-abbrev pub lacks_name : (names : List (List ℕ)) → Option (List ℕ) → Bool
-lacks_name names None = false
-lacks_name names (Some name) = not (is_one_of names name)
-
 -- a condition names a predicate of which the name isn't among these
 abbrev pub lacks_predicate : (names : List (List ℕ)) → Condition → Bool
 lacks_predicate names condition = lacks_name names condition.name
@@ -81,21 +70,9 @@ unknown_name names (condition ∷ conditions) =
 
 -- ---- whether a report has such an answer
 
-abbrev pub is_possibly_yes : Possibly → Bool
-is_possibly_yes (Possibly.Yes counts) = true
-is_possibly_yes _ = false
-
-abbrev pub is_possibly_no : Possibly → Bool
-is_possibly_no Possibly.No = true
-is_possibly_no _ = false
-
 abbrev pub is_possibly_unknown : Possibly → Bool
 is_possibly_unknown (Possibly.Unknown level) = true
 is_possibly_unknown _ = false
-
-abbrev pub is_definitely_yes : Definitely → Bool
-is_definitely_yes (Definitely.Yes level) = true
-is_definitely_yes _ = false
 
 abbrev pub is_definitely_no : Definitely → Bool
 is_definitely_no (Definitely.No path) = true
@@ -113,14 +90,9 @@ is_of_kind DefinitelyYes answer = is_definitely_yes answer.definitely
 is_of_kind DefinitelyNo answer = is_definitely_no answer.definitely
 is_of_kind SomeUnknown answer = is_possibly_unknown answer.possibly || is_definitely_unknown answer.definitely
 
--- an answer is that of the predicate of this name, or of any if there is no name
-abbrev pub is_of_name : Option (List ℕ) → Answer → Bool
-is_of_name None answer = true
-is_of_name (Some name) answer = bytes_eq answer.name name
-
 -- an answer is one of those that a condition asks for
 abbrev pub is_asked_for : Condition → Answer → Bool
-is_asked_for condition answer = is_of_name condition.name answer && is_of_kind condition.kind answer
+is_asked_for condition answer = is_for condition.name answer && is_of_kind condition.kind answer
 
 -- one of the answers is
 abbrev pub is_met : List Answer → Condition → Bool

@@ -5,7 +5,10 @@ use Rattle.def_format.specs.Documents.{Document, DocumentFault, IsDocument, IsRe
 use Rattle.def_format.specs.Limits.{document_byte_limit, report_byte_limit}
 use Rattle.def_format.specs.Reports.{Report}
 use Rattle.app_arguments.specs.Conditions as conditions
-use Rattle.app_arguments.specs.Conditions.{Condition, Conclusion, conclusion, names_of, unknown_name}
+use Rattle.app_arguments.specs.Conditions.{Condition, Conclusion, conclusion, unknown_name}
+use Rattle.judge_runs.specs.Wishes.{names_of}
+use Rattle.app_arguments.specs.Formats.{Format}
+use Rattle.judge_runs.specs.Wishes.{Wish}
 use Rattle.out_picture.specs.Scopes.{Scope}
 use Rattle.def_judgement.specs.Writes.{Source, Writes, Whole, Partial, IsAnyReport, IsBrokenOff, IsJudged, IsRefused, IsWholeInput, IsTextOfBundle, IsTextOfStreams, IsTooLong, IsFindingTextOf}
 
@@ -15,8 +18,9 @@ pub data Request : Type 0 where
   -- to judge the bundle on the input
   JudgeInput : Request
   -- to judge a session document, with what is asked beside it, and streams of events, each in a file of this name; and
-  -- to fail on these answers
-  JudgeFiles : (options : Options) (fail_on : List Condition) (document : List ℕ) (streams : List (List ℕ)) → Request
+  -- to fail on these answers; and to write the report in this format
+  JudgeFiles : (options : Options) (fail_on : List Condition) (format : Format) (document : List ℕ)
+      (streams : List (List ℕ)) → Request
   -- to check a report by a session document, with what is asked beside it, and streams of events, each in a file of
   -- this name
   CheckFiles : (options : Options) (document report : List ℕ) (streams : List (List ℕ)) → Request
@@ -31,6 +35,9 @@ pub data Request : Type 0 where
   -- to write a page of a session document, with what is asked beside it, and streams of events, each in a file of this
   -- name
   ExploreFiles : (options : Options) (fail_on : List Condition) (document : List ℕ) (streams : List (List ℕ)) → Request
+  -- to judge recorded runs, each in the folder of this name, with what is asked beside their documents, and to fail on
+  -- those that aren't as wished
+  TestRuns : (options : Options) (wishes : List Wish) (runs : List (List ℕ)) → Request
   -- to show the help
   ShowHelp : Request
   -- to say which version of the program this is

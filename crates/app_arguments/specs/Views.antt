@@ -9,8 +9,12 @@ use Rattle.out_picture.specs.Scopes.{scope_view}
 use Rattle.app_arguments.specs.Arguments.{AsksFor, LacksJudgement, NamesJudgement}
 use Rattle.app_arguments.specs.declared.request.Judgement.{Judgement}
 use Rattle.app_arguments.specs.declared.request.Request.{Request}
-use Rattle.app_arguments.specs.declared.request.Request.TheVariants.{Bundle, Judge, Check, Draw, Serve, Explore}
+use Rattle.app_arguments.specs.declared.request.Request.TheVariants.{Bundle, Judge, Check, Draw, Serve, Explore, Test}
 use Rattle.app_arguments.specs.declared.request.SessionNames.{SessionNames}
+use Rattle.app_arguments.specs.declared.format.Format.{Format}
+use Rattle.app_arguments.specs.declared.format.Format.TheVariants as formats
+use Rattle.app_arguments.specs.Formats as written
+use Rattle.judge_runs.specs.Views.{wishes_view}
 
 -- the names of the document's file and of the streams' files
 abbrev pub session_view : SessionNames → List ℕ × List (List ℕ)
@@ -26,11 +30,19 @@ FindsJudgement rows found =
 abbrev pub keep_view : Option (Bor (List ℕ)) → Option (List ℕ)
 keep_view keep = option_map (λ (folder : Bor (List ℕ)). folder.now) keep
 
+abbrev pub format_view : Format → written.Format
+format_view formats.Plain = written.Plain
+format_view formats.Json = written.Json
+
+-- names, as the bytes that they hold
+abbrev pub names_view : List (Bor (List ℕ)) → List (List ℕ)
+names_view names = map (λ (name : Bor (List ℕ)). name.now) names
+
 -- what is asked for
 abbrev pub request_view : Request → asked.Request
 request_view Bundle = asked.JudgeInput
-request_view (Judge judgement) =
-    asked.JudgeFiles (options_view judgement.names.options) (fail_on_view judgement.fail_on)
+request_view (Judge judgement format) =
+    asked.JudgeFiles (options_view judgement.names.options) (fail_on_view judgement.fail_on) (format_view format)
     (session_view judgement.names).0 (session_view judgement.names).1
 request_view (Check report names) =
     asked.CheckFiles (options_view names.options) (session_view names).0 report.now (session_view names).1
@@ -43,6 +55,8 @@ request_view (Serve service) =
 request_view (Explore judgement) =
     asked.ExploreFiles (options_view judgement.names.options) (fail_on_view judgement.fail_on)
     (session_view judgement.names).0 (session_view judgement.names).1
+request_view (Test test) =
+    asked.TestRuns (options_view test.options) (wishes_view test.wishes.items) (names_view test.runs.items)
 
 -- the arguments ask for this
 abbrev pub IsAsked : List Text → Request → Type 0

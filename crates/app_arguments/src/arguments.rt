@@ -3,32 +3,41 @@ ghost use Rattle.clap.specs.Matches.{found_of};
 ghost use Rattle.clap.specs.Simple.{app_of, subcommand_of, subcommand_rows_of};
 ghost use Rattle.clap.specs.Values.{kind_of};
 ghost use Rattle.clap.specs.Walk.{Text, all_of, rows_of};
-ghost use Rattle.app_arguments.specs.Arguments.{AreOf, AreTaken, FindsConditions, FindsExtent, FindsSession, FindsScope, IsErrorOf, IsNumberText, IsPort, IsShownKind, NamesConditions, NamesNumber, NamesOptions, NamesPredicates, NamesWait, NamesWidth, NamesWorkers, SaysBeyondWidth, SaysFlag, extent_by, kind_text, monitor_app};
+ghost use Rattle.app_arguments.specs.Arguments.{AreOf, AreTaken, FindsConditions, FindsExtent, FindsFormat, FindsSession, FindsScope, IsErrorOf, IsFormatOf, IsNumberText, IsPort, IsShownKind, NamesConditions, NamesNumber, NamesOptions, NamesRuns, NamesWait, NamesWidth, NamesWorkers, SaysBeyondWidth, SaysFlag, extent_by, kind_text, monitor_app, texts_of};
 ghost use Rattle.app_arguments.specs.ConditionViews.{fail_on_view};
-ghost use Rattle.app_arguments.specs.Views.{FindsJudgement, IsAsked, IsAskedIf, session_view};
+ghost use Rattle.app_arguments.specs.Formats as written;
+ghost use Rattle.app_arguments.specs.Views.{FindsJudgement, IsAsked, IsAskedIf, format_view, names_view, session_view};
+ghost use Rattle.judge_runs.specs.Views.{wishes_view};
+ghost use Rattle.app_arguments.specs.Wishes.{wishes_of};
 ghost use Rattle.pd_spec.specs.Views.{options_view};
 ghost use Rattle.out_picture.specs.Scopes.{scope_view};
 ghost use Rattle.out_picture.specs.declared.kind.Kind as kinds;
 ghost use Rattle.std.specs.Prelude.{◌≡◌, ◌≢◌, ℕ, IfErr, IfOk, IfSome, List, MatchOption, None, codes, false, map, option_map, true};
 
 use super::commands::{
-    EXTENT_USAGE, KIND_USAGE, LIST_USAGE, PORT_LIMIT, WATCHER_LIMIT, program_command,
+    EXTENT_USAGE, FORMAT_USAGE, KIND_USAGE, LIST_USAGE, PORT_LIMIT, WATCHER_LIMIT, program_command,
 };
 use super::fail_on::FailOn;
-use super::request::{Judgement, Request, Service, SessionNames};
+use super::format::Format;
+use super::request::{Judgement, Request, Service, SessionNames, Test};
+use super::wishes::wishes_of;
 use super::workers::Workers;
 use clap::error::ErrorKind;
 use clap::{ArgMatches, Command, Error};
+use judge_runs::Wish;
 use out_picture::{DrawOptions, Extent, Kind};
 use pd_spec::Options;
 use std::alloc::{AllocError, Global};
 
-/// The texts of the predicates that are asked for.
-fn predicates_of<'a>(alloc: Global, matches: &ArgMatches<'a>) -> Result<Vec<&'a str>, AllocError>
-    ensures { IfOk result (λ texts. NamesPredicates (all_of (codes "TEXT") (rows_of (found_of matches.now)))
-        (map (λ text. text.now) texts.items)) }
+/// The texts of an option that may be given again and again.
+fn texts_of<'a>(
+    alloc: Global,
+    matches: &ArgMatches<'a>,
+    id: &str,
+) -> Result<Vec<&'a str>, AllocError>
+    ensures { IfOk result (λ texts. names_view texts.items ≡ texts_of (rows_of (found_of matches.now)) id.now) }
 {
-    let Some(texts) = matches.get_strs("TEXT") else {
+    let Some(texts) = matches.get_strs(id) else {
         return Ok(Vec::new(alloc));
     };
     let texts = texts.to_vec(alloc)?;
@@ -58,7 +67,7 @@ fn options_of<'a>(
     ensures options { IfOk result (λ options. NamesOptions (rows_of (found_of matches.now)) (options_view options)) }
     ensures beyond { IfOk result (λ options. options.beyond_width ≡ beyond_width) }
 {
-    let predicates = predicates_of(alloc, matches)?;
+    let predicates = texts_of(alloc, matches, "TEXT")?;
     Ok(Options {
         width: width_of(matches),
         predicates,
@@ -112,6 +121,31 @@ fn judgement_of<'a>(
     }))
 }
 
+/// The format of this word, or lines of text if there is no word, unless it is no format's.
+fn format_by(word: Option<&str>) -> Option<Format>
+    ensures { MatchOption result
+        ((format : written.Format) → ¬ IsFormatOf (option_map (λ word. word.now) word.entry) format)
+        (λ format. IsFormatOf (option_map (λ word. word.now) word.entry) (format_view format)) }
+{
+    let Some(word) = word else {
+        return Some(Format::Plain);
+    };
+    if is(word.as_bytes(), "text") {
+        return Some(Format::Plain);
+    }
+    if is(word.as_bytes(), "json") {
+        return Some(Format::Json);
+    }
+    None
+}
+
+/// The format of the report, if its option has the word of one or isn't given.
+fn format_of(matches: &ArgMatches<'_>) -> Option<Format>
+    ensures { FindsFormat (rows_of (found_of matches.now)) (option_map format_view result) }
+{
+    format_by(matches.get_str("FORMAT"))
+}
+
 /// What the arguments of `judge` ask for, if all names are there.
 fn judge_request<'a>(
     alloc: Global,
@@ -124,7 +158,10 @@ fn judge_request<'a>(
     let Some(judgement) = judgement_of(alloc, matches)? else {
         return Ok(None);
     };
-    Ok(Some(Request::Judge(judgement)))
+    let Some(format) = format_of(matches) else {
+        return Ok(None);
+    };
+    Ok(Some(Request::Judge(judgement, format)))
 }
 
 /// What the arguments of `check` ask for, if all names are there.
@@ -382,6 +419,57 @@ fn explore_request<'a>(
     Ok(Some(Request::Explore(judgement)))
 }
 
+/// What is wished of the predicates of recorded runs.
+fn wished_of<'a>(alloc: Global, matches: &ArgMatches<'a>) -> Result<Vec<Wish<'a>>, AllocError>
+    ensures { IfOk result (λ wishes. wishes_view wishes.items ≡ wishes_of
+        (texts_of (rows_of (found_of matches.now)) (codes "NEVER"))
+        (texts_of (rows_of (found_of matches.now)) (codes "ALWAYS"))
+        (texts_of (rows_of (found_of matches.now)) (codes "SOMETIMES"))) }
+{
+    let never = texts_of(alloc, matches, "NEVER")?;
+    let always = texts_of(alloc, matches, "ALWAYS")?;
+    let sometimes = texts_of(alloc, matches, "SOMETIMES")?;
+    wishes_of(alloc, &never, &always, &sometimes)
+}
+
+/// The names of the folders of recorded runs, if there are any.
+fn runs_of<'a>(alloc: Global, matches: &ArgMatches<'a>) -> Result<Option<Vec<&'a str>>, AllocError>
+    ensures { IfOk result (λ runs. MatchOption runs
+        ((names : List Text) → ¬ NamesRuns (rows_of (found_of matches.now)) names)
+        (λ runs. NamesRuns (rows_of (found_of matches.now)) (names_view runs.items))) }
+{
+    let Some(names) = matches.get_strs("RUN") else {
+        return Ok(None);
+    };
+    let runs = names.to_vec(alloc)?;
+    Ok(Some(runs))
+}
+
+/// What the arguments of `test` ask for, if a run is named.
+fn test_request<'a>(
+    alloc: Global,
+    matches: &ArgMatches<'a>,
+) -> Result<Option<Request<'a>>, AllocError>
+    ensures { IfOk result (λ request. (arguments : List Text) → AreTaken arguments
+        → AreOf (codes "test") arguments (rows_of (found_of matches.now))
+        → IsAskedIf arguments request) }
+{
+    let Some(runs) = runs_of(alloc, matches)? else {
+        return Ok(None);
+    };
+    let Some(workers) = workers_of(matches) else {
+        return Ok(None);
+    };
+    let options = options_of(alloc, matches, true)?;
+    let wishes = wished_of(alloc, matches)?;
+    Ok(Some(Request::Test(Test {
+        runs,
+        options,
+        wishes,
+        workers,
+    })))
+}
+
 /// What is asked for, by what the parser found, if no name of a file and no number is missing.
 fn request_of<'a>(
     alloc: Global,
@@ -406,6 +494,9 @@ fn request_of<'a>(
     if let Some(found) = matches.subcommand_matches("explore") {
         return explore_request(alloc, found);
     }
+    if let Some(found) = matches.subcommand_matches("test") {
+        return test_request(alloc, found);
+    }
     Ok(Some(Request::Bundle))
 }
 
@@ -413,6 +504,9 @@ fn request_of<'a>(
 fn usage(matches: &ArgMatches<'_>) -> Option<&'static str> {
     match matches.subcommand() {
         Some((_, found)) => {
+            if format_of(found).is_none() {
+                return Some(FORMAT_USAGE);
+            }
             if found.contains_id("LIST") {
                 return Some(LIST_USAGE);
             }

@@ -1,8 +1,9 @@
 //! The program's commands, with their arguments, options and help texts, as its parser takes them.
 ghost use Rattle.clap.specs.Simple.{app_of};
 ghost use Rattle.clap.specs.Walk.{rule_of};
+ghost use Rattle.clap.specs.Words.{new_app, with_rule};
 ghost use Rattle.clap.specs.declared.builder.command.Command.TheViews.{out-Command};
-ghost use Rattle.app_arguments.specs.Arguments.{AddsCommand, all_rule, ask_rule, beyond_width_rule, check_app, document_app, draw_app, explain_rule, fail_on_rule, files_app, from_rule, judging_app, keep_rule, kind_rule, monitor_app, number_rule, plain_app, port_rule, predicate_rule, report_app, required_rule, serve_app, stream_rule, wait_rule, watchers_rule, width_rule, workers_rule};
+ghost use Rattle.app_arguments.specs.Arguments.{AddsCommand, all_rule, always_rule, ask_rule, asking_app, beyond_width_rule, check_app, document_app, draw_app, explain_rule, fail_on_rule, files_app, format_rule, from_rule, judge_app, judging_app, keep_rule, kind_rule, monitor_app, names_rule, never_rule, number_rule, plain_app, port_rule, predicate_rule, report_app, required_rule, run_rule, serve_app, sometimes_rule, stream_rule, test_app, texts_rule, wait_rule, watchers_rule, width_rule, workers_rule};
 ghost use Rattle.app_arguments.specs.Statuses.{IsVersionLine};
 ghost use Rattle.std.specs.Prelude.{◌≡◌, IfOk, codes, false};
 
@@ -27,8 +28,8 @@ const ABOUT: &str =
 events for each process, from files. With no command they are read from the standard input, as one bundle. \
 A report is written to the standard output. The command `check` checks the evidence in such a report, and `draw` \
 draws it. \
-The command `serve` judges streams that processes send over TCP while they run, and `explore` writes a page on which a \
-run is explored.";
+The command `serve` judges streams that processes send over TCP while they run, `explore` writes a page on which a run \
+is explored, and `test` says of many recorded runs which are not as wished.";
 
 /// What the program's help ends with.
 const AFTER: &str = "\
@@ -36,14 +37,15 @@ With --explain anywhere in the arguments the answers, a refusal and whatever fai
 error; in a terminal, or with MONITOR_EXPLAIN=1 in the environment, it is so without that.
 
 Status:
-  0  The session is judged, and no condition of --fail-on is met; a check finds nothing bad; the picture, the page or \
-the help is written
-  1  The session is refused; a check finds something bad, or what stands against the picture
+  0  The session is judged, and no condition of --fail-on is met; all tested runs pass; a check finds nothing bad; the \
+picture, the page or the help is written
+  1  The session is refused; a tested run could not be judged, and none fails; a check finds something bad, or what \
+stands against the picture
   2  The arguments are refused, or name a predicate or evidence that isn't there
   3  A file can't be opened or read, a port can't be bound, a stream can't be accepted or doesn't come in time, or the \
 output or what is to be kept can't be written
   4  Memory runs out
-  5  The session is judged, and a condition of --fail-on is met";
+  5  The session is judged, and a condition of --fail-on is met; a tested run fails";
 
 /// What is wanted of a list of conditions.
 pub(crate) const LIST_USAGE: &str =
@@ -52,6 +54,9 @@ each alone or as NAME:possibly of the predicate NAME, with a comma between each 
 
 /// What is wanted of the word for a kind of evidence.
 pub(crate) const KIND_USAGE: &str = "the word after --evidence has to be possibly or definitely";
+
+/// What is wanted of the word for a format.
+pub(crate) const FORMAT_USAGE: &str = "the word after --format has to be text or json";
 
 /// What is wanted of the columns.
 pub(crate) const EXTENT_USAGE: &str = "--from and --all can't be given together";
@@ -72,6 +77,8 @@ possibly-no    it is no\n  \
 definitely     the answer to definitely is yes\n  \
 definitely-no  it is no\n  \
 unknown        one of the two answers is unknown\n\n\
+With --format json the report is one line with a JSON object, for programs, in place of its lines; its field `report` \
+has these.\n\n\
 An answer is unknown where a level of the lattice has more cuts than the document's width. With --beyond-width \
 predicates that name at most two processes are answered all the same and, as far as docs/SPECIFICATION.md says, those \
 of which each comparison names one process; and whether an `or` of such predicates, or most predicates with one sum \
@@ -149,6 +156,26 @@ The formats are described in docs/SPECIFICATION.md. An example, at the top of th
 crates/monitor/out/monitor explore examples/ten-lines/session.json examples/ten-lines/left.stream \
 examples/ten-lines/right.stream > run.html";
 
+/// What the help says of `test`.
+const TEST_ABOUT: &str =
+    "Judges recorded runs, each in a folder, and says which of them are not as wished";
+
+/// What the help of `test` ends with.
+const TEST_AFTER: &str =
+    "A run is a folder with the session document, session.json, and for each process NAME its stream, NAME.stream. \
+Each is judged as by `judge --beyond-width`, and has a line on the standard output, with its name and what came of \
+it:\n  \
+pass     it is as wished\n  \
+fail     an answer is not as wished, and which\n  \
+refused  the session is refused, and why\n  \
+unread   a file can't be opened or read, and which\n  \
+unnamed  the document lacks a predicate that is wished for, and which\n\n\
+Then come the numbers of runs, and once more the first lines of those that don't pass. The status is 0 if all runs \
+pass, 5 if one fails, or else 1 if one could not be judged, 2 if the arguments are refused, 3 if the output can't be \
+written, and 4 if memory runs out.\n\n\
+The formats are described in docs/SPECIFICATION.md. An example, at the top of the repository:\n  \
+crates/monitor/out/monitor test examples/redis-lock examples/redis-lock-fenced";
+
 /// The greatest port of streams: the next one is that of the watchers.
 pub(crate) const PORT_LIMIT: u64 = 65_534;
 
@@ -169,12 +196,93 @@ fn file_argument<'a>(alloc: Global, id: &'a str, help: &'a str) -> Arg<'a>
     Arg::new(alloc, id).required(true).help(help)
 }
 
+/// An argument of one name or more.
+fn names_argument<'a>(alloc: Global, id: &'a str, help: &'a str) -> Arg<'a>
+    ensures rule { rule_of result ≡ names_rule id.now }
+    ensures local { result.global ≡ false }
+{
+    file_argument(alloc, id, help).num_args(1..)
+}
+
 /// The argument that names the streams.
 fn streams_argument<'a>(alloc: Global) -> Arg<'a>
     ensures rule { rule_of result ≡ stream_rule }
     ensures local { result.global ≡ false }
 {
-    file_argument(alloc, "STREAM", "The streams of events, one file for each").num_args(1..)
+    names_argument(alloc, "STREAM", "The streams of events, one file for each")
+}
+
+/// The argument that names the folders of recorded runs.
+fn runs_argument<'a>(alloc: Global) -> Arg<'a>
+    ensures rule { rule_of result ≡ run_rule }
+    ensures local { result.global ≡ false }
+{
+    names_argument(
+        alloc,
+        "RUN",
+        "The recorded runs, one folder for each, with session.json and NAME.stream of each process NAME",
+    )
+}
+
+/// An option of this name with a text, again and again.
+fn texts_option<'a>(alloc: Global, id: &'a str, name: &'a str, help: &'a str) -> Arg<'a>
+    ensures rule { rule_of result ≡ texts_rule id.now name.now }
+    ensures local { result.global ≡ false }
+{
+    Arg::new(alloc, id)
+        .long(name)
+        .action(ArgAction::Append)
+        .help(help)
+}
+
+/// The option that names a predicate that is never to hold, again and again.
+fn never_option<'a>(alloc: Global) -> Arg<'a>
+    ensures rule { rule_of result ≡ never_rule }
+    ensures local { result.global ≡ false }
+{
+    texts_option(
+        alloc,
+        "NEVER",
+        "never",
+        "A run fails unless possibly is no for this predicate; given again, one more. With none of these three options \
+that is so for each predicate",
+    )
+}
+
+/// The option that names a predicate that is to hold in every observation, again and again.
+fn always_option<'a>(alloc: Global) -> Arg<'a>
+    ensures rule { rule_of result ≡ always_rule }
+    ensures local { result.global ≡ false }
+{
+    texts_option(
+        alloc,
+        "ALWAYS",
+        "always",
+        "A run fails unless definitely is yes for this predicate; given again, one more",
+    )
+}
+
+/// The option that names a predicate that is to hold in some observation, again and again.
+fn sometimes_option<'a>(alloc: Global) -> Arg<'a>
+    ensures rule { rule_of result ≡ sometimes_rule }
+    ensures local { result.global ≡ false }
+{
+    texts_option(
+        alloc,
+        "SOMETIMES",
+        "sometimes",
+        "A run fails unless possibly is yes for this predicate; given again, one more",
+    )
+}
+
+/// The option that names the format of the report.
+fn format_option<'a>(alloc: Global) -> Arg<'a>
+    ensures rule { rule_of result ≡ format_rule }
+    ensures local { result.global ≡ false }
+{
+    Arg::new(alloc, "FORMAT").long("format").help(
+        "Write the report as text, in lines, or as json, in one line with one object; without it as text",
+    )
 }
 
 /// The option that names a predicate.
@@ -321,13 +429,13 @@ fn ask_option<'a>(alloc: Global) -> Arg<'a>
     ensures rule { rule_of result ≡ ask_rule }
     ensures local { result.global ≡ false }
 {
-    Arg::new(alloc, "TEXT")
-        .long("ask")
-        .action(ArgAction::Append)
-        .help(
-            "A predicate in place of the document's, as TEXT or as NAME=TEXT; given again, one more. Without a name \
+    texts_option(
+        alloc,
+        "TEXT",
+        "ask",
+        "A predicate in place of the document's, as TEXT or as NAME=TEXT; given again, one more. Without a name \
 the first is ask1, the second ask2",
-        )
+    )
 }
 
 /// The option that names the conditions on which a judgement is to fail.
@@ -340,6 +448,38 @@ fn fail_on_option<'a>(alloc: Global) -> Arg<'a>
     )
 }
 
+/// A command's line with the options of all commands.
+fn asking_command<'a>(alloc: Global, command: Command<'a>) -> Result<Command<'a>, AllocError>
+    requires { (out-Command command).has_globals ≡ false }
+    ensures app { IfOk result (λ asking. app_of asking ≡ asking_app (app_of command.entry)) }
+    ensures local { IfOk result (λ asking. (out-Command asking).has_globals ≡ false) }
+{
+    command
+        .arg(explain_option(alloc))?
+        .arg(width_option(alloc))?
+        .arg(ask_option(alloc))
+}
+
+/// The command line of the command of this name with this argument, with what its help begins and ends with.
+fn command_with<'a>(
+    alloc: Global,
+    name: &'a str,
+    about: &'a str,
+    after_help: &'a str,
+    argument: Arg<'a>,
+) -> Result<Command<'a>, AllocError>
+    requires { argument.global ≡ false }
+    ensures app { IfOk result (λ command. app_of command
+        ≡ asking_app (with_rule (new_app name.now) (rule_of argument.entry))) }
+    ensures local { IfOk result (λ command. (out-Command command).has_globals ≡ false) }
+{
+    let command = Command::new(alloc, name)
+        .about(about)
+        .after_help(after_help)
+        .arg(argument)?;
+    asking_command(alloc, command)
+}
+
 /// The command line of the command of this name, on a session document, with what its help begins and ends with.
 fn document_command<'a>(
     alloc: Global,
@@ -350,13 +490,8 @@ fn document_command<'a>(
     ensures app { IfOk result (λ command. app_of command ≡ document_app name.now) }
     ensures local { IfOk result (λ command. (out-Command command).has_globals ≡ false) }
 {
-    Command::new(alloc, name)
-        .about(about)
-        .after_help(after_help)
-        .arg(file_argument(alloc, "SPEC", "The session document"))?
-        .arg(explain_option(alloc))?
-        .arg(width_option(alloc))?
-        .arg(ask_option(alloc))
+    let document = file_argument(alloc, "SPEC", "The session document");
+    command_with(alloc, name, about, after_help, document)
 }
 
 /// The command line of the command of this name, on a report with its session document and streams.
@@ -402,10 +537,10 @@ fn files_command<'a>(
 
 /// The command line of a judgement.
 fn judge_command<'a>(alloc: Global) -> Result<Command<'a>, AllocError>
-    ensures app { IfOk result (λ command. app_of command ≡ files_app (codes "judge")) }
+    ensures app { IfOk result (λ command. app_of command ≡ judge_app) }
     ensures local { IfOk result (λ command. (out-Command command).has_globals ≡ false) }
 {
-    files_command(alloc, "judge", JUDGE_ABOUT, JUDGE_AFTER)
+    files_command(alloc, "judge", JUDGE_ABOUT, JUDGE_AFTER)?.arg(format_option(alloc))
 }
 
 /// The command line of a check.
@@ -449,6 +584,18 @@ fn explore_command<'a>(alloc: Global) -> Result<Command<'a>, AllocError>
     files_command(alloc, "explore", EXPLORE_ABOUT, EXPLORE_AFTER)
 }
 
+/// The command line of a test.
+fn test_command<'a>(alloc: Global) -> Result<Command<'a>, AllocError>
+    ensures app { IfOk result (λ command. app_of command ≡ test_app) }
+    ensures local { IfOk result (λ command. (out-Command command).has_globals ≡ false) }
+{
+    command_with(alloc, "test", TEST_ABOUT, TEST_AFTER, runs_argument(alloc))?
+        .arg(workers_option(alloc))?
+        .arg(never_option(alloc))?
+        .arg(always_option(alloc))?
+        .arg(sometimes_option(alloc))
+}
+
 /// The program's command line without its commands.
 fn plain_command<'a>(alloc: Global) -> Result<Command<'a>, AllocError>
     ensures { IfOk result (λ program. app_of program ≡ plain_app) }
@@ -482,5 +629,6 @@ pub(crate) fn program_command<'a>(alloc: Global) -> Result<Command<'a>, AllocErr
     let program = with_command(program, check_command(alloc))?;
     let program = with_command(program, draw_command(alloc))?;
     let program = with_command(program, serve_command(alloc))?;
-    with_command(program, explore_command(alloc))
+    let program = with_command(program, explore_command(alloc))?;
+    with_command(program, test_command(alloc))
 }

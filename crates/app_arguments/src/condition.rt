@@ -1,5 +1,6 @@
 //! One condition.
-ghost use Rattle.app_arguments.specs.Conditions.{IsLawful, condition_text, is_asked_for, is_met, is_of_name, lacks_predicate, names_of, reasons_of};
+ghost use Rattle.app_arguments.specs.Conditions.{IsLawful, condition_text, is_asked_for, is_met, lacks_predicate, reasons_of};
+ghost use Rattle.judge_runs.specs.Wishes.{is_for, names_of};
 ghost use Rattle.app_arguments.specs.ConditionViews.{IsNamed, IsOnName, condition_view, name_view, reason_view};
 ghost use Rattle.def_format.specs.Lists.{is_one_of};
 ghost use Rattle.pd_report.specs.Reading.{IsFoundAs};
@@ -11,6 +12,7 @@ ghost use Rattle.std.specs.Str.{bytes_eq};
 
 use super::kind::{Kind, is_of_kind, kind_of};
 use super::reason::Reason;
+use judge_runs::has_name;
 use pd_pred::is_name;
 use pd_report::Answer;
 use pd_spec::NamedPred;
@@ -57,28 +59,12 @@ pub(crate) fn condition_of(text: &str) -> Option<Condition<'_>>
 
 /// Whether an answer is that of the predicate of this name, or of any if there is no name.
 fn is_of_name(name: Option<&[u8]>, answer: &Answer) -> bool
-    ensures { result ≡ is_of_name (name_view name.entry) (answer_view answer.now) }
+    ensures { result ≡ is_for (name_view name.entry) (answer_view answer.now) }
 {
     match name {
         Some(name) => answer.name.as_bytes() == name,
         None => true,
     }
-}
-
-/// Whether this is the name of a predicate.
-fn is_name_of(name: &[u8], predicate: &NamedPred) -> bool
-    ensures { result ≡ bytes_eq name.now (string_bytes predicate.now.name) }
-{
-    name == predicate.name.as_bytes()
-}
-
-/// Whether one of the predicates has this name.
-fn has_name(predicates: &[NamedPred], name: &[u8]) -> bool
-    ensures { result ≡ is_one_of (names_of (map named_view predicates.now)) name.now }
-{
-    predicates
-        .iter()
-        .any(|predicate| is_name_of(name, predicate))
 }
 
 impl<'n> Condition<'n> {

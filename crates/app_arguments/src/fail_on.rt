@@ -1,5 +1,6 @@
 //! A list of conditions.
-ghost use Rattle.app_arguments.specs.Conditions.{AreLawful, conclusion, conclusion_of_answers, is_met, list_text, names_of, reasons, reasons_of, unknown_name};
+ghost use Rattle.app_arguments.specs.Conditions.{AreLawful, conclusion, conclusion_of_answers, is_met, list_text, reasons, reasons_of, unknown_name};
+ghost use Rattle.judge_runs.specs.Wishes.{names_of};
 ghost use Rattle.app_arguments.specs.ConditionViews.{conclusion_view, conditions_view, fail_on_view, name_view, reason_view};
 ghost use Rattle.pd_report.specs.Reading.{IsFoundAs};
 ghost use Rattle.pd_report.specs.Views.{answer_view, report_view};

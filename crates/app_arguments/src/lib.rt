@@ -12,6 +12,8 @@
 //! - `commands`: the program's commands, as the parser takes them, with their help texts
 //! - `arguments`: what the arguments ask for, by what the parser finds in them
 //! - `request`: what the program is asked for
+//! - `format`: the formats of a report
+//! - `wishes`: what is wished of the predicates of recorded runs, by their names
 //! - `workers`: how many workers share the work on a session
 //! - `kind`: the kinds of answers
 //! - `condition`: one condition
@@ -25,16 +27,19 @@ mod commands;
 mod conclusion;
 mod condition;
 mod fail_on;
+mod format;
 mod kind;
 mod reason;
 mod request;
+mod wishes;
 mod workers;
 
 pub use arguments::parse;
 pub use commands::version_line;
 pub use conclusion::Conclusion;
 pub use fail_on::FailOn;
+pub use format::Format;
 pub use kind::Kind;
 pub use reason::Reason;
-pub use request::{Judgement, Request, Service, SessionNames};
+pub use request::{Judgement, Request, Service, SessionNames, Test};
 pub use workers::Workers;

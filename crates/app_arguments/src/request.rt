@@ -1,7 +1,9 @@
 //! What the program is asked for.
 
 use super::fail_on::FailOn;
+use super::format::Format;
 use super::workers::Workers;
+use judge_runs::Wish;
 use out_picture::DrawOptions;
 use pd_spec::Options;
 
@@ -48,13 +50,26 @@ pub struct Service<'a> {
     pub workers: Workers,
 }
 
+/// What a test of recorded runs is asked for.
+#[derive(Drop)]
+pub struct Test<'a> {
+    /// The names of the runs' folders, in their order.
+    pub runs: Vec<&'a str>,
+    /// What is asked beside each document.
+    pub options: Options<'a>,
+    /// What is wished of the predicates.
+    pub wishes: Vec<Wish<'a>>,
+    /// How many workers share the work.
+    pub workers: Workers,
+}
+
 /// What the program is asked for.
 #[derive(Drop)]
 pub enum Request<'a> {
     /// To judge the bundle on the input.
     Bundle,
-    /// To judge a session document and streams.
-    Judge(Judgement<'a>),
+    /// To judge a session document and streams, and write the report in this format.
+    Judge(Judgement<'a>, Format),
     /// To check the report in the file of this name against a session document and streams.
     Check(&'a str, SessionNames<'a>),
     /// To draw the report in the file of this name with a session document and streams, as it is asked for.
@@ -63,4 +78,6 @@ pub enum Request<'a> {
     Serve(Service<'a>),
     /// To judge a session document and streams, and write the page on which their run is explored.
     Explore(Judgement<'a>),
+    /// To judge recorded runs, and fail on those that aren't as wished.
+    Test(Test<'a>),
 }

@@ -2,6 +2,7 @@
 pub mod DocumentPrefixes
 pub mod FilesRead
 pub mod FlushedTexts
+pub mod JsonReports
 pub mod NamedPredicates
 pub mod UnreadFiles
 pub mod WrittenSoFar

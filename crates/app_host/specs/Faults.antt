@@ -1,7 +1,7 @@
 -- The engine's faults and results, as ends of a run.
 use Rattle.std.specs.Prelude.{Bool, true, false, List, Option, Some, None, Result, Ok, Err}
 use Rattle.def_judgement.specs.Headline.{is_judged}
-use Rattle.app_arguments.specs.Statuses.{Failure, MemoryFailure, ReadFailure, WriteFailure, BundleFailure, NetworkFailure, Ending, Success, Negative, Alarm, NoPredicate, Failed}
+use Rattle.app_arguments.specs.Statuses.{Failure, MemoryFailure, ReadFailure, WriteFailure, BundleFailure, Ending, Success, Negative, Alarm, NoPredicate, Failed}
 use Rattle.app_arguments.specs.Conditions as conditions
 use Rattle.app_arguments.specs.Conditions.{Condition, Conclusion, conclusion}
 use Rattle.pd_report.specs.Views.{report_view}

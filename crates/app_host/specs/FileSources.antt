@@ -1,7 +1,7 @@
 -- What the readers of files have left, and what a call leaves that judges what was read of them.
 use Rattle.std.specs.Prelude.{◌≡◌, ◌<◌, ◌⊎◌, ℕ, true, false, List, length, Option, Some, None, IfSome}
 use Rattle.std.specs.Io.KnownBytes.{Keeps}
-use Rattle.app_arguments.specs.Statuses.{Ending, Success, Negative, Alarm, NoPredicate, Misuse, Failed, File, MemoryFailure, ReadFailure, WriteFailure, BundleFailure, NetworkFailure}
+use Rattle.app_arguments.specs.Statuses.{Ending, Failed, File, MemoryFailure, ReadFailure}
 use Rattle.def_format.specs.Documents.{Options, inquiry_of, outline_of_inquiry}
 use Rattle.def_format.specs.Limits.{document_byte_limit}
 use Rattle.def_judgement.specs.Writes.{Source}

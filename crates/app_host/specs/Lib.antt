@@ -1,2 +1,3 @@
 pub mod FileSources
 pub mod Faults
+pub mod Formats

@@ -14,6 +14,7 @@
 //! - `session_files`: opens and reads the files of a session
 //! - `claim_files`: the files of a report and of the session that it is said to be of
 //! - `named`: looks up the predicates that conditions name
+//! - `json`: judges a session, and writes its report as JSON
 //! - `judgements`: judges the session in files
 //! - `checks`: checks a report against the session in files
 #![tactic(auto)]
@@ -21,6 +22,7 @@
 mod checks;
 mod claim_files;
 mod file_source;
+mod json;
 mod judgements;
 mod level_gate;
 mod line;
@@ -46,7 +48,7 @@ pub use noted_source::NotedSource;
 pub use notes::Notes;
 pub use session_files::{open_noted, read_document, read_session};
 pub use status::{
-    FAILED, MISUSED, REFUSED, SUCCESS, conclusion_status, report_bundle, report_end, report_fault,
-    report_judgement, report_no_predicate,
+    ALARMED, FAILED, MISUSED, REFUSED, SUCCESS, conclusion_status, report_bundle, report_end,
+    report_fault, report_judgement, report_no_predicate,
 };
 pub use world::{System, World};

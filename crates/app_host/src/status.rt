@@ -12,11 +12,12 @@ use judge_session::EngineFault;
 use pd_engine::{Outcome, Report, report_outcome};
 use std::io::Write;
 
-/// The session is judged and has no answer to fail on, nothing that a check found is bad, or the help that was asked
-/// for is written.
+/// The session is judged and has no answer to fail on, each run that is tested passes, nothing that a check found is
+/// bad, or the help that was asked for is written.
 pub const SUCCESS: u8 = 0;
 
-/// The session is refused, and its report says why; or something that a check found is bad.
+/// The session is refused, and its report says why; a run that is tested could not be judged, and none fails; or
+/// something that a check found is bad.
 pub const REFUSED: u8 = 1;
 
 /// The arguments are refused, or give the name of a predicate that the session doesn't have.
@@ -29,7 +30,7 @@ pub const FAILED: u8 = 3;
 /// Memory runs out.
 pub const NO_MEMORY: u8 = 4;
 
-/// The session is judged, and has an answer to fail on.
+/// The session is judged, and has an answer to fail on; or a run that is tested fails.
 pub const ALARMED: u8 = 5;
 
 /// The exit status of a fault.

@@ -220,6 +220,9 @@ const needed = { skip: [MONITOR, EXAMPLES, CHROMIUM].includes(undefined) && "MON
 
 // ---- the tests --------------------------------------------------------------------------------------------------
 
+// The address says what is shown: it is written a quarter of a second later.
+const WRITTEN = "location.hash === '#' + fragmentOf(run, state)";
+
 test("the cut is moved by clicks and drags", needed, async () => {
   const page = await Page.open(example("failover"));
   assert.deepEqual(await page.cut(), [2, 0, 2], "the evidence is shown first");
@@ -422,7 +425,7 @@ test("only what matters is shown, and the cut goes on as before", needed, async 
   const [x, y] = await page.grip(3);
   await page.drag([x, y], [(await page.place(3, 50))[0] + 12, y]);
   assert.equal(await page.js("state.cut[3] >= 50 && state.cut[1] >= 36 && isConsistent(run, state.cut)"), true);
-  await page.until("location.hash.includes('only=two_leaders')");
+  await page.until(`location.hash.includes('only=two_leaders') && ${WRITTEN}`);
   const [fragment, cut] = [await page.js("location.hash"), await page.cut()];
   await page.js("show(1)");
   assert.match(await page.text("status"), /^south1/);
@@ -476,7 +479,7 @@ test("lanes are folded and moved, by pointer and keys", needed, async () => {
     "Folded: east, manager. 2 messages in view, between folded lanes, are hidden.");
   await page.js("cutTo(0, 4)");
   assert.equal(await page.js("isConsistent(run, state.cut) && state.cut[0]"), 4);
-  await page.until("location.hash.includes('lanes=1,2,0&folded=0,1')");
+  await page.until(`location.hash.includes('lanes=1,2,0&folded=0,1') && ${WRITTEN}`);
   const fragment = await page.js("location.hash");
   await page.js("select(1, 3)");
   assert.deepEqual(await page.js("state.folded"), [true, false, false], "what is selected is seen");
@@ -552,7 +555,8 @@ test("the address has the cut, the view, the event and the film", needed, async 
   const page = await Page.open(file);
   await page.click(1, 3);
   await page.js("openFilm(1, 4)");
-  await page.until("location.hash.includes('film=two_writers.4') && location.hash.includes('event=east.3')");
+  await page.until(`location.hash.includes('film=two_writers.4') && location.hash.includes('event=east.3')
+    && ${WRITTEN}`);
   const fragment = await page.js("location.hash");
   const cut = await page.cut();
   await page.close();

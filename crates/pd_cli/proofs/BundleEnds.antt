@@ -15,6 +15,7 @@ none_asks = of_input nothing_is_taken (λ found. let is = found.1 in let none = 
     (λ found. let is = found.1 in let none = nothing_is_no_command in cc)
     (λ found. let is = found.1 in let none = nothing_is_no_command in cc)
     (λ found. let is = found.1 in let none = nothing_is_no_command in cc)
+    (λ found. let is = found.1 in let none = nothing_is_no_command in cc)
 
 pub none_left : {A B : Type 0} (f : A → B) (xs : List A) → length xs ≤ 1 → drop 1 (map f xs) ≡ []
 none_left f [] le = refl

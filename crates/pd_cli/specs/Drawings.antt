@@ -1,5 +1,5 @@
 -- What a run that draws leaves on its output and on its errors.
-use Rattle.std.specs.Prelude.{◌≡◌, ◌⊎◌, ℕ, Bool, List, [], ◌++◌, codes, map, Option, Result, Ok, Err, IsOkAnd}
+use Rattle.std.specs.Prelude.{◌≡◌, ◌⊎◌, ℕ, List, [], ◌++◌, codes, map, Option, Result, Ok, Err, IsOkAnd}
 use Rattle.std.specs.Io.KnownBytes.{Keeps}
 use Rattle.def_format.specs.Documents.{Inquiry, Options}
 use Rattle.app_arguments.specs.Statuses.{File, OfClaim, OfDocument, UnreadClaim, WritesUpTo, line_of_failure, sources_of, status_of_failure}
@@ -9,7 +9,7 @@ use Rattle.judge_draw.specs.Drawings.{IsAnyTextOf, IsCycleTextOf, IsDrawingTextO
 use Rattle.judge_draw.specs.declared.drawings.DrawOutcome.{DrawOutcome}
 use Rattle.judge_draw.specs.declared.drawings.DrawOutcome.TheVariants.{Written, CycleWritten, Refused, NoPredicate, NoEvidence}
 use Rattle.judge_session.specs.declared.fault.EngineFault.{EngineFault}
-use Rattle.judge_session.specs.declared.fault.EngineFault.TheVariants.{Memory, Write, Read, BundleLong}
+use Rattle.judge_session.specs.declared.fault.EngineFault.TheVariants.{Memory, Write, Read}
 use Rattle.app_host.specs.Faults.{failure_view}
 
 -- the line above what a check finds

@@ -5,10 +5,12 @@ use Rattle.clap.specs.Words.{Text}
 use Rattle.def_judgement.specs.Writes.{Source}
 use Rattle.judge_explore.specs.Sources.{AreFilesOf}
 use Rattle.app_arguments.specs.Arguments.{AsksFor}
-use Rattle.app_arguments.specs.Statuses.{CheckFiles, DrawFiles, Ending, Ends, ExploreFiles, Failed, File, HelpLeaves, JudgeFiles, JudgeInput, JudgementLeaves, LeavesOf, MayBeUnread, MemoryFailure, MisuseLeaves, OfConnections, OfFinding, OfNamed, OfStreams, Request, ServeStreams, ServiceMayFail, SessionLeaves, ShowHelp, ShowVersion, Unclear, UnreadClaim, VersionLeaves, sources_of}
+use Rattle.app_arguments.specs.Statuses.{CheckFiles, DrawFiles, Ending, Ends, ExploreFiles, Failed, File, HelpLeaves, JudgeFiles, JudgeInput, JudgementLeaves, LeavesOf, MayBeUnread, MemoryFailure, MisuseLeaves, OfConnections, OfFinding, OfNamed, Request, ServeStreams, ServiceMayFail, SessionLeaves, ShowHelp, ShowVersion, TestRuns, Unclear, UnreadClaim, VersionLeaves, sources_of}
 use Rattle.pd_cli.specs.Drawings.{EndsDrawn}
 use Rattle.pd_cli.specs.Explorations.{OfPage}
 use Rattle.app_host.specs.FileSources.{bytes_in}
+use Rattle.app_host.specs.Formats.{OfFormat}
+use Rattle.app_test.specs.Tests.{TestLeaves}
 
 -- a run with this exit status came to some end, by which this is left on the output and on the errors
 abbrev pub By : (IsLeft : Ending → (old new : Option (List ℕ)) → Type 0) → (status : ℕ)
@@ -20,8 +22,8 @@ By IsLeft status old new errors_old errors_new = Ends (λ ending. IsLeft ending 
 abbrev pub Leaves : (input : Source) (files : List ℕ → File) (connections : ℕ → Source → Type 0)
     (network_serves : Bool) → Request → (status : ℕ) (old new errors_old errors_new : Option (List ℕ)) → Type 0
 Leaves input files connections network_serves JudgeInput = By (JudgementLeaves input)
-Leaves input files connections network_serves (JudgeFiles options fail_on document streams) =
-    By (SessionLeaves files options document streams (λ sources. OfNamed fail_on (OfStreams sources fail_on)))
+Leaves input files connections network_serves (JudgeFiles options fail_on format document streams) =
+    By (SessionLeaves files options document streams (λ sources. OfNamed fail_on (OfFormat format sources fail_on)))
 Leaves input files connections network_serves (CheckFiles options document report streams) =
     By (LeavesOf options (files document) (UnreadClaim files document report streams)
     (OfFinding (files report).source (sources_of (map files streams))))
@@ -33,6 +35,8 @@ Leaves input files connections network_serves (ServeStreams options fail_on docu
 Leaves input files connections network_serves (ExploreFiles options fail_on document streams) =
     By (SessionLeaves files options document streams
     (λ sources. OfNamed fail_on (OfPage (AreFilesOf (bytes_in files) streams) sources fail_on)))
+Leaves input files connections network_serves (TestRuns options wishes runs) =
+    By (TestLeaves files options wishes runs)
 Leaves input files connections network_serves ShowHelp = By HelpLeaves
 Leaves input files connections network_serves ShowVersion = By VersionLeaves
 Leaves input files connections network_serves Unclear = By MisuseLeaves

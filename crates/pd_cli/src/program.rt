@@ -8,8 +8,11 @@ ghost use Rattle.pd_cli.specs.Runs.{RunsAsAsked};
 ghost use Rattle.judge_explore.specs.Sources.{AreFilesOf};
 ghost use Rattle.out_picture.specs.Scopes.{scope_view};
 ghost use Rattle.app_arguments.specs.ConditionViews.{fail_on_view};
-ghost use Rattle.app_arguments.specs.Statuses.{Ends, JudgementLeaves, LeavesOf, MayBeUnread, OfConnections, OfFinding, OfNamed, OfStreams, ServiceMayFail, SessionLeaves, UnreadClaim, sources_of};
-ghost use Rattle.app_arguments.specs.Views.{keep_view, session_view};
+ghost use Rattle.app_arguments.specs.Statuses.{Ends, JudgementLeaves, LeavesOf, MayBeUnread, OfConnections, OfFinding, OfNamed, ServiceMayFail, SessionLeaves, UnreadClaim, sources_of};
+ghost use Rattle.app_arguments.specs.Views.{format_view, keep_view, names_view, session_view};
+ghost use Rattle.app_host.specs.Formats.{OfFormat};
+ghost use Rattle.app_test.specs.Tests.{TestLeaves};
+ghost use Rattle.judge_runs.specs.Views.{wishes_view};
 ghost use Rattle.def_judgement.specs.Writes.{WritesTruthOfBundle};
 ghost use Rattle.pd_spec.specs.Views.{options_view};
 ghost use Rattle.std.specs.Prelude.{◌≡◌, ◌≢◌, ◌≤◌, ◌∷◌, [], drop, false, length, map, vec_len, None};
@@ -19,13 +22,14 @@ use super::draw_files::{draw_files, report_drawing};
 use super::explanation::write_explanation;
 use super::explore_files::explore_files;
 use super::parser_error::report_parser_error;
-use app_arguments::{Judgement, Request, Service, SessionNames, parse};
+use app_arguments::{Format, Judgement, Request, Service, SessionNames, Test, parse};
 use app_ends::{bundle_text, check_text, drawing_text, judgement_text};
 use app_host::{
     FileSource, LevelGate, Network, NotedSource, Notes, System, World, check_files, judge_files,
     report_bundle, report_end, report_judgement,
 };
 use app_serve::{Host, Peers, report_service_end, serve, service_text};
+use app_test::{report_test, test_runs, test_text};
 use out_picture::DrawOptions;
 use pd_engine::ByteSource;
 use std::alloc::Global;
@@ -110,21 +114,22 @@ fn run_service<Y: System, O: Write, E: Write>(
     report_service_end(&service.fail_on, &end, errors)
 }
 
-/// Judges the session in files, and gives the exit status.
+/// Judges the session in files, writes the report in this format, and gives the exit status.
 fn run_files<Y: System, O: Write, E: Write>(
     world: &World<'_, Y>,
     judgement: &Judgement<'_>,
+    format: Format,
     output: &mut O,
     errors: &mut E,
 ) -> u8
     ensures { Explained world.now.explain (λ start. Ends (λ ending. SessionLeaves (Y.Files.file_of world.now.files.now)
         (options_view judgement.now.names.options) judgement.now.names.spec.now (session_view judgement.now.names).1
-        (λ sources. OfNamed (fail_on_view judgement.now.fail_on) (OfStreams sources
+        (λ sources. OfNamed (fail_on_view judgement.now.fail_on) (OfFormat (format_view format) sources
         (fail_on_view judgement.now.fail_on))) ending (O.contents output.old)
         (O.contents output.new)) result start (E.contents errors.new)) (E.contents errors.old) }
 {
     let gate = LevelGate::new(world.files);
-    let end = judge_files(world, judgement, &gate, output);
+    let end = judge_files(world, judgement, format, &gate, output);
     let text = judgement_text(world, judgement, gate.widest(), &end);
     write_explanation(world.explain, &text, errors);
     report_judgement(&judgement.fail_on, &end, errors)
@@ -149,6 +154,25 @@ fn run_explore<Y: System, O: Write, E: Write>(
     let text = judgement_text(world, judgement, gate.widest(), &end);
     write_explanation(world.explain, &text, errors);
     report_judgement(&judgement.fail_on, &end, errors)
+}
+
+/// Tests recorded runs, and gives the exit status.
+fn run_test<Y: System, O: Write, E: Write>(
+    world: &World<'_, Y>,
+    test: &Test<'_>,
+    output: &mut O,
+    errors: &mut E,
+) -> u8
+    ensures { Explained world.now.explain (λ start. Ends (λ ending. TestLeaves (Y.Files.file_of world.now.files.now)
+        (options_view test.now.options) (wishes_view test.now.wishes.items) (names_view test.now.runs.items) ending
+        (O.contents output.old) (O.contents output.new)) result start (E.contents errors.new)) (E.contents errors.old) }
+{
+    let gate = LevelGate::new(world.files);
+    let (options, wishes, workers) = (&test.options, &test.wishes, &test.workers);
+    let end = test_runs(world, &test.runs, options, wishes, workers, &gate, output);
+    let text = test_text(world, &end);
+    write_explanation(world.explain, &text, errors);
+    report_test(&end, errors)
 }
 
 /// Judges the bundle on the input, and gives the exit status.
@@ -186,13 +210,16 @@ fn run_arguments<Y: System, I: ByteSource + Drop, O: Write, E: Write>(
 {
     match parse(world.alloc, arguments) {
         Ok(Request::Bundle) => run_bundle(world, input, output, errors),
-        Ok(Request::Judge(judgement)) => { run_files(world, &judgement, output, errors) },
+        Ok(Request::Judge(judgement, format)) => {
+            run_files(world, &judgement, format, output, errors)
+        }
         Ok(Request::Check(report, names)) => { run_check(world, report, &names, output, errors) }
         Ok(Request::Draw(report, scope, names)) => {
             run_draw(world, report, &scope, &names, output, errors)
         }
         Ok(Request::Serve(service)) => { run_service(world, &service, output, errors) }
         Ok(Request::Explore(judgement)) => { run_explore(world, &judgement, output, errors) }
+        Ok(Request::Test(test)) => { run_test(world, &test, output, errors) }
         Err(error) => report_parser_error(&error, output, errors),
     }
 }
@@ -214,9 +241,10 @@ fn without_first(arguments: &[String]) -> &[String]
 /// writes the picture to `output`; `serve`, with the name of a session document's file and a port, judges streams that
 /// come by connections; `explore`, with the names of `judge`, judges these and writes the page on which their run is
 /// explored, or the report of a refusal, to `output`; these three answer predicates beyond the width where they are
-/// decided, and fail on answers, if that is asked for; the help that they ask for is written to
-/// `output`, and what is wrong with them to `errors`. `errors` also has one line for each fault, and before it an
-/// explanation if one is wanted, as `explain` says; what of it can't be written is left off.
+/// decided, and fail on answers, if that is asked for; `test`, with the names of folders with recorded runs, judges
+/// each and writes to `output` which of them are not as wished; the help that they ask for is written to `output`, and
+/// what is wrong with them to `errors`. `errors` also has one line for each fault, and before it an explanation if one
+/// is wanted, as `explain` says; what of it can't be written is left off.
 pub fn run<
     S: RandomSource + Threads + Wait + Sync,
     F: FileSource,

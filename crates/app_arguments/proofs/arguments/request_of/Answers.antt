@@ -16,3 +16,5 @@ returns c arguments taken same =
     c.args.matches.now found.0 same found.1) in cc)
     (λ found. let bad = c.in_default-subcommand_matches-4.ensures.found.1 (named_by_rows (codes "explore") arguments
     c.args.matches.now found.0 same found.1) in cc)
+    (λ found. let bad = c.in_default-subcommand_matches-5.ensures.found.1 (named_by_rows (codes "test") arguments
+    c.args.matches.now found.0 same found.1) in cc)

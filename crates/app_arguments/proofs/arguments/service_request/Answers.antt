@@ -47,7 +47,7 @@ returns-then-watchers-gt-WATCHER_LIMIT c arguments taken are asked says named =
 pub returns-in_default-workers_of : goal.returns-in_default-workers_of
 returns-in_default-workers_of c arguments taken are asked says named =
     let rows = rows_of (found_of c.args.matches.now) in
-    of_missing_workers (codes "serve") rows (inr (inl refl)) are
+    of_missing_workers (codes "serve") rows (inl (inr (inl refl))) are
     (lacks_workers rows (c.workers_of.ensures.none c.in_default-workers_of.is))
 
 pub returns : goal.returns

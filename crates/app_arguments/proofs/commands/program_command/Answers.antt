@@ -1,4 +1,4 @@
--- The program's command line has its five commands.
+-- The program's command line has its six commands.
 use Rattle.app_arguments.proofs.Builders.{with_command, with_last_command}
 use Rattle.app_arguments.proofs.commands.program_command.Goals as goal
 
@@ -17,6 +17,9 @@ with_command-requires-4 c = c.serve_command.ensures.local
 pub with_command-requires-5 : goal.with_command-requires-5
 with_command-requires-5 c = c.explore_command.ensures.local
 
+pub with_command-requires-6 : goal.with_command-requires-6
+with_command-requires-6 c = c.test_command.ensures.local
+
 pub returns : goal.returns
 returns c =
     let judge_is =
@@ -25,5 +28,6 @@ returns c =
     with_command _ _ _ _ _ judge_is c.check_command.ensures.app c.in_ok-program-3.ensures in
     let draw_is = with_command _ _ _ _ _ check_is c.draw_command.ensures.app c.in_ok-program-4.ensures in
     let serve_is = with_command _ _ _ _ _ draw_is c.serve_command.ensures.app c.in_ok-program-5.ensures in
-    with_last_command _ c.explore_command.result c.with_command-5.result _ _ serve_is c.explore_command.ensures.app
-    c.with_command-5.ensures
+    let explore_is = with_command _ _ _ _ _ serve_is c.explore_command.ensures.app c.in_ok-program-6.ensures in
+    with_last_command _ c.test_command.result c.with_command-6.result _ _ explore_is c.test_command.ensures.app
+    c.with_command-6.ensures

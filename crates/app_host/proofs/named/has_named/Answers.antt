@@ -1,7 +1,8 @@
 -- Each predicate that is named is there, or there is none to look up.
 use Rattle.std.proofs.Common.{◌≡◌, List, None, ap, not, sym, subst, ◌∙◌}
 use Rattle.app_arguments.specs.ConditionViews.{fail_on_view}
-use Rattle.app_arguments.specs.Conditions.{names_of, unknown_name}
+use Rattle.app_arguments.specs.Conditions.{unknown_name}
+use Rattle.judge_runs.specs.Wishes.{names_of}
 use Rattle.def_format.specs.Documents.{NamedPredicate}
 use Rattle.judge_session.specs.Inquiries.{inquiry_view}
 use Rattle.pd_spec.specs.Views.{document_view}

@@ -1,7 +1,8 @@
 -- By whether each predicate that is named is there.
 use Rattle.std.proofs.Common.{◌≡◌, ◌≢◌, List, None, ap, not, subst, ◌∙◌}
 use Rattle.app_arguments.specs.ConditionViews.{fail_on_view}
-use Rattle.app_arguments.specs.Conditions.{names_of, unknown_name}
+use Rattle.app_arguments.specs.Conditions.{unknown_name}
+use Rattle.judge_runs.specs.Wishes.{names_of}
 use Rattle.app_arguments.specs.Statuses.{ServiceMayFail}
 use Rattle.app_arguments.specs.Views.{keep_view}
 use Rattle.def_format.specs.Documents.{NamedPredicate}

@@ -91,6 +91,20 @@ returns-in-Ok-Explore g c = record {
   };
 }
 
+pub returns-in-Ok-Test : goal.returns-in-Ok-Test
+returns-in-Ok-Test g c = record {
+  ends = record {
+    start = c.run_test.ensures.start;
+    explanation = c.run_test.ensures.explanation;
+    reported = inr (
+      _,
+      subst (IsAsked (map (λ argument. argument.bytes.items) c.args.arguments.now)) c.in-Ok-Test.field-0-is
+          c.in-Ok-Test.ensures.asked,
+      c.run_test.ensures.reported,
+    );
+  };
+}
+
 pub returns-in-Err : goal.returns-in-Err
 returns-in-Err g c = record {
   ends = record {

@@ -1,0 +1,4 @@
+-- The modules of lemmas of this crate.
+mod OpenedStreams
+mod OutcomesOfRead
+mod WrittenTests

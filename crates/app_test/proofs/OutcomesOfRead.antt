@@ -1,0 +1,138 @@
+-- What comes of a run by the bytes that were read of its document comes of it by the document's file.
+use Rattle.std.proofs.Common.{◌≡◌, ℕ, List, [], ◌∷◌, map, None, Ok, Err, ap, refl, sym, subst}
+use Rattle.std.specs.Prelude.{IfOk, Result}
+use Rattle.std.specs.List.{AllZip}
+use Rattle.def_format.specs.Documents.{Document, DocumentFault, Inquiry, IsDocument, IsRefusedDocument, Options, inquiry_of, outline_of_inquiry}
+use Rattle.def_format.specs.Reports.{Report}
+use Rattle.def_judgement.specs.OneReport.{DocumentNotRefused, OneDocument}
+use Rattle.def_judgement.specs.Writes.{Source}
+use Rattle.app_arguments.specs.Statuses.{File, MayBeUnread, OfDocument, sources_of}
+use Rattle.judge_runs.specs.Runs.{Outcome, Reported, Unnamed, Unread}
+use Rattle.judge_runs.specs.Views.{outcome_view}
+use Rattle.judge_runs.specs.Wishes.{Wish, first_unnamed, names_of}
+use Rattle.judge_runs.specs.declared.outcome.Outcome as outcomes
+use Rattle.judge_session.specs.declared.fault.EngineFault.{EngineFault}
+use Rattle.judge_session.specs.declared.fault.EngineFault.TheVariants.{Read}
+use Rattle.pd_engine.specs.SessionReports.{IsTrueReportOfInputs}
+use Rattle.app_host.specs.FileSources.{IsReadOf, Knows}
+use Rattle.app_host.proofs.DocumentPrefixes.{same_document, same_judgement, same_refusal, same_truth}
+use Rattle.app_host.proofs.FilesRead.{given_as_files, of_document}
+use Rattle.app_test.specs.ReadRuns.{IsReadOutcome, IsReportOfInquiry}
+use Rattle.app_test.specs.Tests.{IsOutcome, document_in, of_document_unread, of_report, of_stream_unread, of_unnamed, streams_in}
+
+-- ---- the whole document
+
+-- an inquiry of the whole document has the outline of that of the bytes that were read
+abbrev HasOutlineOf : Options → (read : List ℕ) → Inquiry → Type 0
+HasOutlineOf options read inquiry = outline_of_inquiry (inquiry_of options read) ≡ outline_of_inquiry inquiry
+
+whole_document : (options : Options) (file : File) (read : List ℕ) → IsReadOf read file.source
+    → OfDocument options file (HasOutlineOf options read)
+whole_document options file read is =
+    of_document options file read (Unit {0}) (HasOutlineOf options read) is (λ document same _. same) tt
+
+pub outcome_of_read : (files : List ℕ → File) (options : Options) (wishes : List Wish) (folder read : List ℕ)
+    → IsReadOf read (files (document_in folder)).source → (outcome : Outcome)
+    → IsReadOutcome files wishes folder (inquiry_of options read) outcome
+    → IsOutcome files options wishes folder outcome
+outcome_of_read files options wishes folder read is (Unread file) found =
+    let all = whole_document options (files (document_in folder)) read is in
+    of_stream_unread file (record {
+      bytes = all.bytes;
+      whole = all.whole;
+      document = found.0;
+      is_document = same_document options read all.bytes found.0 all.holds found.1;
+      holds = found.2;
+    })
+outcome_of_read files options wishes folder read is (Unnamed name) found =
+    let all = whole_document options (files (document_in folder)) read is in
+    of_unnamed name (record {
+      bytes = all.bytes;
+      whole = all.whole;
+      document = found.0;
+      is_document = same_document options read all.bytes found.0 all.holds found.1;
+      holds = found.2;
+    })
+outcome_of_read files options wishes folder read is (Reported report) found =
+    let all = whole_document options (files (document_in folder)) read is in
+    of_report report (record {
+      bytes = all.bytes;
+      whole = all.whole;
+      inputs = found.inputs;
+      of_document = λ document is_document.
+          found.of_document document (same_document options all.bytes read document (sym all.holds) is_document);
+      of_refused = λ fault refused.
+          found.of_refused fault (same_refusal options all.bytes read fault (sym all.holds) refused);
+      given = record {
+        streams = found.given.streams;
+        are_given = found.given.are_given;
+        right = same_judgement options read all.bytes found.given.streams report all.holds found.given.right;
+        truth = same_truth options read all.bytes found.given.streams report all.holds found.given.truth;
+      };
+    })
+
+-- the same of a result
+pub outcomes_of_read : (files : List ℕ → File) (options : Options) (wishes : List Wish) (folder read : List ℕ)
+    → IsReadOf read (files (document_in folder)).source → (result : Result outcomes.Outcome EngineFault)
+    → IfOk result (λ outcome. IsReadOutcome files wishes folder (inquiry_of options read) (outcome_view outcome))
+    → IfOk result (λ outcome. IsOutcome files options wishes folder (outcome_view outcome))
+outcomes_of_read files options wishes folder read is (Ok outcome) found =
+    outcome_of_read files options wishes folder read is (outcome_view outcome) found
+outcomes_of_read files options wishes folder read is (Err fault) found = tt
+
+-- what comes of a run whatever is wished for
+pub of_any_wishes : (files : List ℕ → File) (wishes : List Wish) (folder : List ℕ) (inquiry : Inquiry)
+    (result : Result outcomes.Outcome EngineFault)
+    → IfOk result (λ outcome. (all : List Wish) → IsReadOutcome files all folder inquiry (outcome_view outcome))
+    → IfOk result (λ outcome. IsReadOutcome files wishes folder inquiry (outcome_view outcome))
+of_any_wishes files wishes folder inquiry (Ok outcome) found = found wishes
+of_any_wishes files wishes folder inquiry (Err fault) found = tt
+
+-- what comes of a run whose document can't be read
+pub unread_document : (files : List ℕ → File) (options : Options) (wishes : List Wish) (folder path : List ℕ)
+    (fault : EngineFault) → path ≡ document_in folder
+    → (fault ≡ Read → MayBeUnread (files path ∷ []) (files path ∷ []))
+    → (result : Result outcomes.Outcome EngineFault)
+    → IfOk result (λ outcome. (fault ≡ Read) × (outcome_view outcome ≡ Unread path))
+    → IfOk result (λ outcome. IsOutcome files options wishes folder (outcome_view outcome))
+unread_document files options wishes folder path fault same unread (Ok outcome) found =
+    subst (λ (o : Outcome). IsOutcome files options wishes folder o) (sym found.1)
+    (subst (λ (p : List ℕ). IsOutcome files options wishes folder (Unread p)) (sym same)
+    (of_document_unread (subst (λ (p : List ℕ). MayBeUnread (files p ∷ []) (files p ∷ [])) same (unread found.0))))
+unread_document files options wishes folder path fault same unread (Err other) found = tt
+
+-- ---- the report of an inquiry
+
+-- of the document that is read, and of its streams' files
+pub report_of_document : (files : List ℕ → File) (wishes : List Wish) (folder : List ℕ) (inquiry : Inquiry)
+    (document : Document) (lefts : List Source) (report : Report) → OneDocument → DocumentNotRefused
+    → IsDocument inquiry document → first_unnamed (names_of document.predicates) wishes ≡ None
+    → AllZip Knows (sources_of (map files (streams_in folder document.names))) lefts
+    → IsTrueReportOfInputs inquiry lefts report → IsReportOfInquiry files wishes folder inquiry report
+report_of_document files wishes folder inquiry document lefts report one not_refused is named known given = record {
+  inputs = sources_of (map files (streams_in folder document.names));
+  of_document = λ other is_other.
+      let same : document ≡ other = one inquiry document other is is_other in (
+        subst (λ (d : Document). first_unnamed (names_of d.predicates) wishes ≡ None) same named,
+        ap (λ (d : Document). sources_of (map files (streams_in folder d.names))) same,
+      );
+  of_refused = λ fault refused. absurd (not_refused inquiry document fault is refused);
+  given = record {
+    streams = given.streams;
+    are_given = given_as_files _ lefts given.streams known given.are_given;
+    right = given.right;
+    truth = given.truth;
+  };
+}
+
+-- of a document that is refused
+pub report_of_refused : {F : Type 0} (files : List ℕ → File) (wishes : List Wish) (folder : List ℕ) (inquiry : Inquiry)
+    (fault : DocumentFault) (left : F → Source) (streams : List F) (report : Report) → DocumentNotRefused
+    → IsRefusedDocument inquiry fault → streams ≡ [] → IsTrueReportOfInputs inquiry (map left streams) report
+    → IsReportOfInquiry files wishes folder inquiry report
+report_of_refused files wishes folder inquiry fault left streams report not_refused refused none given = record {
+  inputs = [];
+  of_document = λ document is. absurd (not_refused inquiry document fault is refused);
+  of_refused = λ other _. refl;
+  given = subst (λ items. IsTrueReportOfInputs inquiry (map left items) report) none given;
+}
