@@ -1,0 +1,719 @@
+using System;
+using System.Collections.Generic;
+using System.Globalization;
+using System.IO;
+using System.Net;
+using System.Net.Sockets;
+using System.Text;
+using System.Text.RegularExpressions;
+using System.Threading;
+
+namespace MonitorRecorder
+{
+    /// <summary>Why a call was refused.</summary>
+    public enum Reason
+    {
+        /// <summary>No name of a process: letters, digits and _, at most 32, no digit first, no word of predicates.
+        /// </summary>
+        ProcessName,
+        /// <summary>No name of a variable, or one that stands twice in one call.</summary>
+        VariableName,
+        /// <summary>A process has at most 16 variables.</summary>
+        Variables,
+        /// <summary>A process has at most 10,000 events. The last one of a strand is kept for its end.</summary>
+        Events,
+        /// <summary>The id of a message has 1 to 64 bytes of UTF-8.</summary>
+        Id,
+        /// <summary>The process has sent or received a message with this id before, so a receipt is that of a second
+        /// copy.</summary>
+        IdTwice,
+        /// <summary>The recording has ended, or was closed.</summary>
+        Ended,
+        /// <summary>An earlier line could not be written, so none is any more.</summary>
+        Broken,
+        /// <summary>The name is that of the process or of another strand of it.</summary>
+        NameTwice,
+        /// <summary>A process and its strands are at most 16.</summary>
+        Processes,
+        /// <summary>The recorder was made for an open stream, so there is no place for a strand's.</summary>
+        NoPlace,
+        /// <summary>What is to be joined is no strand that has ended.</summary>
+        NotEnded,
+        /// <summary>MONITOR_TO isn't set, or is a port that there isn't.</summary>
+        Place
+    }
+
+    /// <summary>A call was refused and wrote nothing: its message says why.</summary>
+    public sealed class NotRecordedException : Exception
+    {
+        internal NotRecordedException(Reason reason, string message) : base(message)
+        {
+            Reason = reason;
+        }
+
+        /// <summary>Why the call was refused.</summary>
+        public Reason Reason { get; }
+    }
+
+    /// <summary>A variable and the value that it has from now on.</summary>
+    public struct Setting
+    {
+        /// <summary>A setting of this variable.</summary>
+        public Setting(string name, long value)
+        {
+            Name = name;
+            Value = value;
+        }
+
+        /// <summary>The name of the variable.</summary>
+        public string Name { get; }
+
+        /// <summary>The value that it has from now on.</summary>
+        public long Value { get; }
+    }
+
+    /// <summary>
+    /// Records one process of a distributed program for <c>monitor</c>: its events in their order, one line each.
+    /// <code>
+    /// using static MonitorRecorder.Recorder;
+    ///
+    /// using (var recorder = Recorder.ToFile("left", "left.stream"))
+    /// {
+    ///     recorder.Event(Set("inside", 1), Set("waiting", false)); // these are their values from now on
+    ///     string message = recorder.Send(Set("money", 70));        // BEFORE the message leaves; the id goes with it
+    ///     recorder.Receive("right-1", Set("money", 80));           // AFTER a message has come, with its id
+    ///     recorder.End();
+    /// }
+    /// </code>
+    /// Each line is handed to the operating system before the call returns, so that nothing that was recorded is lost
+    /// if the process crashes. Several threads may use one recorder. What <c>monitor</c> would refuse is refused at
+    /// once, by a <see cref="NotRecordedException"/>, and the recorder goes on as if the call hadn't been made. What
+    /// the system refuses is an <see cref="IOException"/> or an <see cref="UnauthorizedAccessException"/>. The formats
+    /// and limits are those of docs/SPECIFICATION.md.
+    ///
+    /// A block that is left before <see cref="End"/>, by an exception or a <c>return</c>, closes the recorder and
+    /// leaves no end line, since nobody knows what the process would have done: <c>monitor</c> refuses the stream as
+    /// <c>unended</c>.
+    ///
+    /// One recorder is one order of events. A thread or task that waits by itself gets a <see cref="Strand"/>, or the
+    /// order in which it came is taken for a cause.
+    /// </summary>
+    public sealed class Recorder : IDisposable
+    {
+        /// <summary>At most so many events has a process.</summary>
+        public const int EventLimit = 10000;
+        /// <summary>At most so many variables has a process.</summary>
+        public const int VariableLimit = 16;
+        /// <summary>At most so many processes has a session: a process and its strands are as many at most.</summary>
+        public const int ProcessLimit = 16;
+        /// <summary>At most so many bytes has the name of a process or of a variable.</summary>
+        public const int NameByteLimit = 32;
+        /// <summary>At most so many bytes of UTF-8 has the id of a message, and at least one.</summary>
+        public const int IdByteLimit = 64;
+
+        private const int PortLimit = 65534;
+        private const string Short = "\"\\\b\f\n\r\t";
+        private static readonly Regex Name = new Regex(@"\A[A-Za-z_][A-Za-z0-9_]*\z");
+        private static readonly Regex Port = new Regex(@"\A(?:localhost|127\.0\.0\.1)?:([0-9]{1,5})\z");
+        private static readonly HashSet<string> Reserved = new HashSet<string> { "and", "or", "not", "true", "false" };
+        private static readonly TimeSpan Patience = TimeSpan.FromSeconds(10);
+        private static readonly TimeSpan Pause = TimeSpan.FromMilliseconds(50);
+        private static readonly UTF8Encoding Utf8 = new UTF8Encoding(false, true);
+
+        private readonly string process;
+        private readonly Stream output;
+        private readonly Family family;
+        private readonly bool isStrand;
+        private readonly HashSet<string> ids = new HashSet<string>();
+        private readonly HashSet<string> names = new HashSet<string>();
+        private bool ended;
+        private bool broken;
+        private int events;
+        private int made;
+        /// <summary>The id of the message by which a strand has ended.</summary>
+        private volatile string last;
+
+        /// <summary>Records to a file, a connection or whatever else takes bytes. Each line is flushed, and the stream
+        /// is closed with the recorder.</summary>
+        public Recorder(string process, Stream output) : this(process, output, null)
+        {
+        }
+
+        private Recorder(string process, Stream output, Family family)
+        {
+            this.process = CheckedProcess(process);
+            this.output = output;
+            isStrand = family != null;
+            this.family = family ?? new Family(process);
+            Write("{\"process\":" + Quoted(process) + "}");
+        }
+
+        /// <summary>Records to a new file. One that is there already is an <see cref="IOException"/>.</summary>
+        public static Recorder ToFile(string process, string path)
+        {
+            CheckedProcess(process);
+            string folder = Path.GetDirectoryName(Path.GetFullPath(path));
+            return Over(process, NewFile(path), null, name => NewFile(Path.Combine(folder, name + ".stream")));
+        }
+
+        /// <summary>Records to <c>monitor serve</c> on a port of this machine, 1 to 65,534, which may listen up to ten
+        /// seconds later; if nobody does by then, it is an <see cref="IOException"/>. A later call waits while the
+        /// monitor doesn't read.</summary>
+        public static Recorder ToPort(string process, int port)
+        {
+            return ToPort(process, port, Patience);
+        }
+
+        /// <summary>The same, with another time to wait for somebody who listens.</summary>
+        public static Recorder ToPort(string process, int port, TimeSpan patience)
+        {
+            CheckedProcess(process);
+            return Over(process, ConnectionTo(port, patience), null, _ => ConnectionTo(port, patience));
+        }
+
+        /// <summary>Records to where MONITOR_TO in the environment says, so that no code changes between a test and a
+        /// live session: to a new file NAME.stream in a folder of this name, which is made if there is none; or to
+        /// <c>monitor serve</c> on a port of this machine, of <c>:7411</c> or <c>localhost:7411</c>.</summary>
+        public static Recorder FromEnvironment(string process)
+        {
+            return ToPlace(process, Environment.GetEnvironmentVariable("MONITOR_TO") ?? "");
+        }
+
+        /// <summary>The same, of a place that is given.</summary>
+        public static Recorder ToPlace(string process, string place)
+        {
+            CheckedProcess(process);
+            Match match = Port.Match(place);
+            int port = match.Success ? int.Parse(match.Groups[1].Value, CultureInfo.InvariantCulture) : 1;
+            if (place.Length == 0 || port < 1 || port > PortLimit)
+            {
+                throw Refused(Reason.Place, "MONITOR_TO is \"" + place + "\", and names a folder, or a port from 1 to "
+                    + PortLimit + " as :7411");
+            }
+            if (match.Success)
+            {
+                return ToPort(process, port);
+            }
+            Directory.CreateDirectory(place);
+            return ToFile(process, Path.Combine(place, process + ".stream"));
+        }
+
+        private static Recorder Over(string process, Stream output, Family family, Func<string, Stream> place)
+        {
+            try
+            {
+                var recorder = new Recorder(process, output, family);
+                if (place != null)
+                {
+                    recorder.family.Place = place;
+                }
+                return recorder;
+            }
+            catch
+            {
+                output.Dispose();
+                throw;
+            }
+        }
+
+        private static Stream NewFile(string path)
+        {
+            // A buffer of one byte keeps nothing that a crash would lose.
+            return new FileStream(path, FileMode.CreateNew, FileAccess.Write, FileShare.ReadWrite, 1);
+        }
+
+        /// <summary>A variable and the value that it has from now on, for <c>using static</c>.</summary>
+        public static Setting Set(string name, long value)
+        {
+            return new Setting(name, value);
+        }
+
+        /// <summary>The same, with 1 for true and 0 for false.</summary>
+        public static Setting Set(string name, bool value)
+        {
+            return new Setting(name, value ? 1 : 0);
+        }
+
+        /// <summary>Hold it, by <c>lock (recorder.SyncRoot)</c>, if an event and its line must stay together.</summary>
+        public object SyncRoot { get; } = new object();
+
+        /// <summary>How many events are recorded.</summary>
+        public int Events
+        {
+            get
+            {
+                lock (SyncRoot)
+                {
+                    return events;
+                }
+            }
+        }
+
+        /// <summary>Something happened in this process; these variables have these values from now on.</summary>
+        public void Event(params Setting[] settings)
+        {
+            Record(null, null, settings);
+        }
+
+        /// <summary>This process sends a message to one other or, if the document is of version 2, to several: call it
+        /// once, BEFORE the message leaves. The id that it makes and gives, the process's name and a counter as in
+        /// <c>left-1</c>, has to travel with the message.</summary>
+        public string Send(params Setting[] settings)
+        {
+            lock (SyncRoot)
+            {
+                CheckRoom();
+                return SendAny(settings);
+            }
+        }
+
+        /// <summary>The same, with an id that no other send of the session has.</summary>
+        public void SendAs(string id, params Setting[] settings)
+        {
+            Record("send", CheckedId(id), settings);
+        }
+
+        /// <summary>A message has come, with this id: call it AFTER that. A second copy is refused, as
+        /// <see cref="Reason.IdTwice"/>.</summary>
+        public void Receive(string id, params Setting[] settings)
+        {
+            Record("recv", CheckedId(id), settings);
+        }
+
+        /// <summary>Begins a strand, for a thread or task that waits by itself: a recorder which is a process of the
+        /// session, of this name. It is recorded to NAME.stream beside the file of this recorder, or to the same port.
+        /// This process sends it a message, so call it where the thread is started. A strand ends by <see cref="End"/>
+        /// or <see cref="Dispose"/>; then it sends a message to whoever joins it. It ends with its process at the
+        /// latest.</summary>
+        public Recorder Strand(string name)
+        {
+            CheckedProcess(name);
+            lock (SyncRoot)
+            {
+                CheckRoom();
+                Recorder strand = family.Begun(name);
+                try
+                {
+                    strand.Receive(Send());
+                    return strand;
+                }
+                catch
+                {
+                    strand.CloseOut();
+                    throw;
+                }
+            }
+        }
+
+        /// <summary>This process has waited for a strand, which has ended: call it AFTER that. It receives the
+        /// strand's last message; these variables have these values from now on.</summary>
+        public void Join(Recorder strand, params Setting[] settings)
+        {
+            lock (SyncRoot)
+            {
+                CheckRoom();
+                if (strand == null || strand.last == null)
+                {
+                    throw Refused(Reason.NotEnded, (strand == null ? "null" : strand.process)
+                        + " is no strand that has ended: wait for it, and then join it");
+                }
+                Record("recv", strand.last, settings);
+            }
+        }
+
+        /// <summary>Nothing more happens in this process: writes the end line, and closes the file or connection; its
+        /// strands that have not ended get their end lines. A strand sends its last message before. A second call does
+        /// nothing.</summary>
+        public void End()
+        {
+            try
+            {
+                if (!isStrand)
+                {
+                    family.EndAll(strand => strand.CutOff());
+                }
+            }
+            finally
+            {
+                EndOut(isStrand);
+            }
+        }
+
+        /// <summary>Closes the file or connection. Without <see cref="End"/> before, the stream has no end line, and
+        /// neither have those of its strands that have not ended. A strand ends by it, as by <see cref="End"/>.
+        /// </summary>
+        public void Dispose()
+        {
+            try
+            {
+                if (!isStrand)
+                {
+                    family.EndAll(strand => strand.CloseOut());
+                }
+                else if (!IsBroken())
+                {
+                    EndOut(true);
+                }
+            }
+            finally
+            {
+                CloseOut();
+            }
+        }
+
+        private bool IsBroken()
+        {
+            lock (SyncRoot)
+            {
+                return broken;
+            }
+        }
+
+        private void EndOut(bool sendsLast)
+        {
+            lock (SyncRoot)
+            {
+                if (ended)
+                {
+                    return;
+                }
+                CheckOpen();
+                if (sendsLast)
+                {
+                    last = SendAny();
+                }
+                Write("{\"end\":true}");
+                CloseOut();
+            }
+        }
+
+        /// <summary>The process of this strand ends before it: writes the end line alone.</summary>
+        private void CutOff()
+        {
+            lock (SyncRoot)
+            {
+                try
+                {
+                    if (!broken)
+                    {
+                        EndOut(false);
+                    }
+                }
+                finally
+                {
+                    CloseOut();
+                }
+            }
+        }
+
+        private void CloseOut()
+        {
+            lock (SyncRoot)
+            {
+                ended = true;
+                output.Dispose();
+            }
+        }
+
+        /// <summary>A process that is recorded, and its strands.</summary>
+        private sealed class Family
+        {
+            private readonly string process;
+            private readonly HashSet<string> names = new HashSet<string>();
+            private readonly List<Recorder> strands = new List<Recorder>();
+            private bool ended;
+
+            internal Family(string process)
+            {
+                this.process = process;
+                names.Add(process);
+            }
+
+            /// <summary>Opens the stream of a strand, if there is a place for it.</summary>
+            internal Func<string, Stream> Place { private get; set; }
+
+            /// <summary>A strand of this name, which has written its first line.</summary>
+            internal Recorder Begun(string name)
+            {
+                lock (names)
+                {
+                    Check(name);
+                    Recorder strand = Over(name, Place(name), this, null);
+                    names.Add(name);
+                    strands.Add(strand);
+                    return strand;
+                }
+            }
+
+            private void Check(string name)
+            {
+                if (ended)
+                {
+                    throw Refused(Reason.Ended, "the recording of " + process + " has ended");
+                }
+                if (names.Contains(name))
+                {
+                    throw Refused(Reason.NameTwice,
+                        name + " is another process of this recording: give each strand a name of its own");
+                }
+                if (names.Count == ProcessLimit)
+                {
+                    throw Refused(Reason.Processes, process + " and its strands are " + ProcessLimit
+                        + " processes, and a session has at most as many");
+                }
+                if (Place == null)
+                {
+                    throw Refused(Reason.NoPlace,
+                        process + " has no place for the stream of a strand: make its recorder by ToFile or ToPort");
+                }
+            }
+
+            private Recorder[] All()
+            {
+                lock (names)
+                {
+                    ended = true;
+                    return strands.ToArray();
+                }
+            }
+
+            /// <summary>Ends each of the strands; if one can't be ended, the others are. No lock of the process is
+            /// held.</summary>
+            internal void EndAll(Action<Recorder> ending)
+            {
+                IOException failure = null;
+                foreach (Recorder strand in All())
+                {
+                    try
+                    {
+                        ending(strand);
+                    }
+                    catch (IOException error)
+                    {
+                        failure = error;
+                    }
+                }
+                if (failure != null)
+                {
+                    throw failure;
+                }
+            }
+        }
+
+        private string SendAny(params Setting[] settings)
+        {
+            int number = made + 1;
+            while (ids.Contains(process + "-" + number))
+            {
+                number++;
+            }
+            string id = process + "-" + number;
+            Put("send", id, settings);
+            made = number;
+            return id;
+        }
+
+        /// <summary>Checks an event and writes its line; the field is null for an event without a message.</summary>
+        private void Record(string field, string id, Setting[] settings)
+        {
+            lock (SyncRoot)
+            {
+                CheckRoom();
+                Put(field, id, settings);
+            }
+        }
+
+        /// <summary>One of a strand's events is kept for its end.</summary>
+        private void CheckRoom()
+        {
+            CheckOpen();
+            if (events >= (isStrand ? EventLimit - 1 : EventLimit))
+            {
+                throw Refused(Reason.Events, process + " has " + events + " events: no process may have more than "
+                    + EventLimit + ", and the last one of a strand is its end");
+            }
+        }
+
+        private void CheckOpen()
+        {
+            if (ended)
+            {
+                throw Refused(Reason.Ended, "the recording of " + process + " has ended");
+            }
+            if (broken)
+            {
+                throw Refused(Reason.Broken, "an earlier line of " + process + " could not be written");
+            }
+        }
+
+        /// <summary>Checks the message and the variables of an event, and writes its line.</summary>
+        private void Put(string field, string id, Setting[] settings)
+        {
+            if (id != null && ids.Contains(id))
+            {
+                throw Refused(Reason.IdTwice, process + " has sent or received " + Quoted(id) + " before");
+            }
+            HashSet<string> added = CheckedNames(settings);
+            Write(LineOf(field, id, settings));
+            events++;
+            names.UnionWith(added);
+            if (id != null)
+            {
+                ids.Add(id);
+            }
+        }
+
+        private HashSet<string> CheckedNames(Setting[] settings)
+        {
+            var added = new HashSet<string>();
+            foreach (Setting setting in settings)
+            {
+                if (!IsName(setting.Name) || !added.Add(setting.Name))
+                {
+                    throw Refused(Reason.VariableName, setting.Name + " is no name of a variable, or stands twice");
+                }
+            }
+            var all = new HashSet<string>(names);
+            all.UnionWith(added);
+            if (all.Count > VariableLimit)
+            {
+                throw Refused(Reason.Variables, process + " has at most " + VariableLimit + " variables");
+            }
+            return added;
+        }
+
+        /// <summary>Hands the line to the system. If that fails, nothing more is written later.</summary>
+        private void Write(string line)
+        {
+            // With the limits above no line has over 1,400 bytes, and no stream over 14,000,000: monitor takes more.
+            byte[] bytes = Utf8.GetBytes(line + "\n");
+            broken = true;
+            output.Write(bytes, 0, bytes.Length);
+            output.Flush();
+            broken = false;
+        }
+
+        private static string LineOf(string field, string id, Setting[] settings)
+        {
+            var fields = new List<string>();
+            if (field != null)
+            {
+                fields.Add(Quoted(field) + ":" + Quoted(id));
+            }
+            if (settings.Length > 0)
+            {
+                string[] pairs = Array.ConvertAll(settings, setting =>
+                    Quoted(setting.Name) + ":" + setting.Value.ToString(CultureInfo.InvariantCulture));
+                fields.Add("\"set\":{" + string.Join(",", pairs) + "}");
+            }
+            return "{" + string.Join(",", fields) + "}";
+        }
+
+        /// <summary>The text as JSON has it between quotes: as short as it can be.</summary>
+        private static string Quoted(string text)
+        {
+            var quoted = new StringBuilder("\"");
+            foreach (char character in text)
+            {
+                int place = Short.IndexOf(character);
+                if (place >= 0)
+                {
+                    quoted.Append('\\').Append("\"\\bfnrt"[place]);
+                }
+                else if (character < ' ')
+                {
+                    quoted.Append("\\u").Append(((int)character).ToString("x4", CultureInfo.InvariantCulture));
+                }
+                else
+                {
+                    quoted.Append(character);
+                }
+            }
+            return quoted.Append('"').ToString();
+        }
+
+        private static bool IsName(string name)
+        {
+            return name != null && Name.IsMatch(name) && name.Length <= NameByteLimit && !Reserved.Contains(name);
+        }
+
+        private static string CheckedProcess(string name)
+        {
+            if (!IsName(name))
+            {
+                throw Refused(Reason.ProcessName, name + " is no name of a process: letters, digits and _, at most "
+                    + NameByteLimit + ", none of them a digit at first, and none of " + string.Join(", ", Reserved));
+            }
+            return name;
+        }
+
+        private static string CheckedId(string id)
+        {
+            try
+            {
+                int size = id == null ? 0 : Utf8.GetByteCount(id);
+                if (size >= 1 && size <= IdByteLimit)
+                {
+                    return id;
+                }
+                throw Refused(Reason.Id,
+                    "the id of a message has 1 to " + IdByteLimit + " bytes, and this one has " + size);
+            }
+            catch (EncoderFallbackException)
+            {
+                throw Refused(Reason.Id, "this id can't be written in UTF-8");
+            }
+        }
+
+        private static NotRecordedException Refused(Reason reason, string message)
+        {
+            return new NotRecordedException(reason, message);
+        }
+
+        /// <summary>A connection to a port of this machine, on which nobody may listen yet.</summary>
+        private static Stream ConnectionTo(int port, TimeSpan patience)
+        {
+            var begun = System.Diagnostics.Stopwatch.StartNew();
+            while (true)
+            {
+                Stream connection = ConnectionNow(port);
+                if (connection != null)
+                {
+                    return connection;
+                }
+                if (begun.Elapsed >= patience)
+                {
+                    throw new IOException("nobody listens on port " + port);
+                }
+                Thread.Sleep(Pause);
+            }
+        }
+
+        /// <summary>The connection, or null if nobody listens.</summary>
+        private static Stream ConnectionNow(int port)
+        {
+            var socket = new Socket(AddressFamily.InterNetwork, SocketType.Stream, ProtocolType.Tcp);
+            try
+            {
+                socket.Connect(IPAddress.Loopback, port);
+                // A connection to a port that nobody has bound can come to be with itself.
+                if (!socket.LocalEndPoint.Equals(socket.RemoteEndPoint))
+                {
+                    socket.NoDelay = true;
+                    return new NetworkStream(socket, true);
+                }
+                socket.Dispose();
+                return null;
+            }
+            catch (SocketException error)
+            {
+                socket.Dispose();
+                if (error.SocketErrorCode == SocketError.ConnectionRefused)
+                {
+                    return null;
+                }
+                throw new IOException("port " + port + " can't be reached: " + error.Message, error);
+            }
+        }
+    }
+}
