@@ -24,12 +24,16 @@ STREAM = """{"process":"left"}
 {"send":"left-1","set":{"inside":0}}
 {"end":true}
 """
-PYTHON = """from monitor_recorder import Recorder
+PYTHON = """from monitor_http import record_client
+from monitor_recorder import Recorder
+record_client()
 with Recorder.to_file("left", "left.stream") as left:
     left.event(inside=1)
     left.send(inside=0)
 """
 JAVASCRIPT = """import { Recorder } from "monitor-recorder";
+import { recordClients } from "monitor-recorder/http";
+recordClients();
 const left = Recorder.toFile("left", "left.stream");
 left.event({ inside: 1 });
 left.send({ inside: 0 });
