@@ -330,6 +330,9 @@ func (r *Recorder) lastMessage() (name, last string) {
 	return r.process, r.last
 }
 
+// Process is the name of the process, or of the strand, that is recorded.
+func (r *Recorder) Process() string { return r.process }
+
 // Events says how many events are recorded.
 func (r *Recorder) Events() int {
 	r.mutex.Lock()

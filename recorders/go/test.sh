@@ -14,6 +14,6 @@ cd "$here" || exit 1
 
 unformatted=$(gofmt -l .)
 [ -z "$unformatted" ] || { echo "go: gofmt would change $unformatted"; exit 1; }
-go vet ./... && go test "${flags[@]}" -count=1 . && go build "${flags[@]}" -o "$folder/player" ./player || exit 1
+go vet ./... && go test "${flags[@]}" -count=1 . ./httprec && go build "${flags[@]}" -o "$folder/player" ./player || exit 1
 python3 ../cases/page.py README.md || exit 1
 python3 ../cases/play.py "$folder/player"
