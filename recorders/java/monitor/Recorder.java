@@ -337,6 +337,11 @@ public final class Recorder implements AutoCloseable {
         record("recv", strand.last, settings);
     }
 
+    /** The name of the process, or of the strand, that is recorded. */
+    public String process() {
+        return process;
+    }
+
     /** How many events are recorded. */
     public synchronized int events() {
         return events;
