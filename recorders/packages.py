@@ -18,7 +18,8 @@ HERE = os.path.dirname(os.path.abspath(__file__))
 SOURCE = os.path.join(HERE, "..", "crates", "app_arguments", "src", "commands.rt")
 # Where a package says its version. Go's module has none in a file: it is that of a tag.
 VERSIONS = {"python/pyproject.toml": r'^version = "(.*)"$', "javascript/package.json": r'^  "version": "(.*)",$',
-            "rust/Cargo.toml": r'^version = "(.*)"$', "c/monitor_recorder.pc": r"^Version: (.*)$"}
+            "rust/Cargo.toml": r'^version = "(.*)"$', "c/monitor_recorder.pc": r"^Version: (.*)$",
+            "java/pom.xml": r"^  <version>(.*)</version>$"}
 STREAM = """{"process":"left"}
 {"set":{"inside":1}}
 {"send":"left-1","set":{"inside":0}}
@@ -41,9 +42,15 @@ left.end();
 """
 GO = """package main
 
-import "monitor.example/record"
+import (
+	"net/http"
+
+	"monitor.example/record"
+	"monitor.example/record/httprec"
+)
 
 func main() {
+	http.DefaultClient.Transport = httprec.Transport(nil, nil)
 	left, err := record.ToFile("left", "left.stream")
 	if err == nil {
 		defer left.Close()
@@ -59,6 +66,65 @@ func main() {
 		panic(err)
 	}
 }
+"""
+JAVA = """import static monitor.Recorder.set;
+
+import java.net.http.HttpClient;
+import java.nio.file.Path;
+import monitor.Recorder;
+import monitor.http.RecordingClient;
+
+final class Main {
+    public static void main(String[] arguments) throws Exception {
+        HttpClient client = RecordingClient.over(HttpClient.newBuilder(), null);
+        try (Recorder left = Recorder.toFile("left", Path.of("left.stream"))) {
+            left.event(set("inside", 1));
+            left.send(set("inside", 0));
+            left.end();
+        }
+    }
+}
+"""
+JAVA_PROJECT = """<project>
+  <modelVersion>4.0.0</modelVersion>
+  <groupId>program.example</groupId>
+  <artifactId>program</artifactId>
+  <version>0</version>
+  <properties>
+    <maven.compiler.release>17</maven.compiler.release>
+    <project.build.sourceEncoding>UTF-8</project.build.sourceEncoding>
+  </properties>
+  <dependencies>
+    <dependency>
+      <groupId>monitor.example</groupId>
+      <artifactId>monitor-recorder</artifactId>
+      <version>%s</version>
+    </dependency>
+  </dependencies>
+  <build>
+    <plugins>
+      <plugin>
+        <artifactId>maven-compiler-plugin</artifactId>
+        <version>3.10.1</version>
+      </plugin>
+    </plugins>
+  </build>
+</project>
+"""
+# Debian's packages put what Maven needs into this folder, in place of what it would fetch.
+MAVEN_FOLDER = "/usr/share/maven-repo"
+MAVEN_NEEDS = [*(f"org/apache/maven/plugins/maven-{name}-plugin"
+                 for name in ("compiler", "install", "jar", "resources", "surefire")),
+               "jakarta/servlet/jakarta.servlet-api/5.0.0"]
+MAVEN_SETTINGS = f"""<settings>
+  <mirrors>
+    <mirror>
+      <id>debian</id>
+      <mirrorOf>*</mirrorOf>
+      <url>file://{MAVEN_FOLDER}</url>
+    </mirror>
+  </mirrors>
+</settings>
 """
 RUST = """use monitor_recorder::{Error, Recorder};
 
@@ -109,7 +175,7 @@ class Project:
 
     def run(self, *words, **environment):
         done = subprocess.run(words, cwd=self.at, env={**os.environ, **environment}, stdout=subprocess.PIPE,
-                              stderr=subprocess.STDOUT, encoding="utf-8", errors="replace", timeout=120)
+                              stderr=subprocess.STDOUT, encoding="utf-8", errors="replace", timeout=300)
         if done.returncode:
             raise Failed(f"{' '.join(words)} ends with {done.returncode}:\n{done.stdout}")
         return done.stdout.strip()
@@ -159,6 +225,25 @@ def try_go(project):
     project.run("go", "run", ".", GOPROXY="off", GOFLAGS="-mod=mod")
 
 
+def try_java(project):
+    need("mvn", "javac", "java")
+    for name in MAVEN_NEEDS:
+        if not os.path.exists(os.path.join(MAVEN_FOLDER, name)):
+            raise Missing(f"no {name} in {MAVEN_FOLDER}")
+    repository = os.path.join(project.at, "repository")
+    project.write("settings.xml", MAVEN_SETTINGS)
+    project.write("pom.xml", JAVA_PROJECT % version())
+    project.write("src/main/java/Main.java", JAVA)
+    maven = ["mvn", "--offline", "-Daether.offline.protocols=file", "--batch-mode", "--quiet",
+             "--settings", "settings.xml", f"-Dmaven.repo.local={repository}"]
+    quick = "-XX:TieredStopAtLevel=1 -XX:+UseSerialGC"
+    project.run(*maven, "--file", os.path.join(project.package, "pom.xml"), "install", MAVEN_OPTS=quick)
+    project.run(*maven, "compile", MAVEN_OPTS=quick)
+    jar = os.path.join(repository, "monitor", "example", "monitor-recorder", version(),
+                       f"monitor-recorder-{version()}.jar")
+    project.run("java", "-cp", f"target/classes:{jar}", "Main")
+
+
 def try_rust(project):
     need("cargo")
     project.write("Cargo.toml", '[package]\nname = "program"\nversion = "0.0.0"\nedition = "2021"\n\n[dependencies]\n'
@@ -178,7 +263,8 @@ def try_c(project):
     project.run("./main")
 
 
-TRIED = {"python": try_python, "javascript": try_javascript, "go": try_go, "rust": try_rust, "c": try_c}
+TRIED = {"python": try_python, "javascript": try_javascript, "go": try_go, "java": try_java, "rust": try_rust,
+         "c": try_c}
 
 
 def try_package(language):
