@@ -28,11 +28,17 @@ _Static_assert(9 + 6 * MONITOR_ID_BYTE_LIMIT + 9 + MONITOR_VARIABLE_LIMIT * (MON
                    <= LINE_ROOM,
                "each line has room: the id and what is around it, each setting, and the end");
 
+/* A note has a text and a file, of which each byte may take six, and some fields. */
+#define NOTE_ROOM (2 * 6 * MONITOR_NOTE_BYTE_LIMIT + 256)
+
 /* A power of two, over twice the number of ids. */
 #define SLOTS 32768
 
+static const char ending[] = ".stream", notes_ending[] = ".notes.jsonl";
+
+/* A line, in an array that has room for it. */
 typedef struct {
-    char bytes[LINE_ROOM];
+    char *bytes;
     size_t size;
 } line_text;
 
@@ -40,6 +46,7 @@ struct monitor_recorder {
     pthread_mutex_t lock;
     pid_t owner;
     int descriptor;
+    int notes; /* the descriptor of the notes of the events, or -1 if they have none */
     bool is_socket;
     bool is_broken;
     bool is_ended;          /* only of a strand: otherwise it is gone then */
@@ -54,6 +61,7 @@ struct monitor_recorder {
     size_t strand_count;
     monitor_recorder *strands[MONITOR_PROCESS_LIMIT - 1];
     char *folder;
+    int options;
     uint16_t port;
     double seconds;
     size_t variable_count;
@@ -118,15 +126,14 @@ static void put_event(line_text *line, const char *field, const char *id, const 
 }
 
 /* Hands the whole line to the system. If that fails, nothing more is written later. */
-static monitor_status write_line(monitor_recorder *recorder, const line_text *line)
+static monitor_status write_to(monitor_recorder *recorder, int descriptor, bool is_socket, const line_text *line)
 {
     size_t done = 0;
     recorder->is_broken = true;
     while (done < line->size) {
         const char *rest = line->bytes + done;
         size_t size = line->size - done;
-        ssize_t taken = recorder->is_socket ? send(recorder->descriptor, rest, size, MSG_NOSIGNAL)
-                                            : write(recorder->descriptor, rest, size);
+        ssize_t taken = is_socket ? send(descriptor, rest, size, MSG_NOSIGNAL) : write(descriptor, rest, size);
         if (taken < 0 && errno == EINTR)
             continue;
         if (taken == 0)
@@ -137,6 +144,11 @@ static monitor_status write_line(monitor_recorder *recorder, const line_text *li
     }
     recorder->is_broken = false;
     return MONITOR_RECORDED;
+}
+
+static monitor_status write_line(monitor_recorder *recorder, const line_text *line)
+{
+    return write_to(recorder, recorder->descriptor, recorder->is_socket, line);
 }
 
 /* Names and ids */
@@ -175,6 +187,74 @@ static size_t character_size(const unsigned char *text)
     bool is_surrogate = first == 0xed && text[1] >= 0xa0;
     bool is_too_large = first == 0xf4 && text[1] >= 0x90;
     return is_overlong || is_surrogate || is_too_large ? 0 : size;
+}
+
+/* The text as JSON has it between quotes, but without these. Besides what JSON escapes these are: a terminal takes some
+ * for commands, and what reads lines others for their ends. A byte that is no UTF-8 is U+FFFD, and what is too long is
+ * cut. */
+static void put_note_text(line_text *line, const char *text)
+{
+    static const char escaped[] = "\"\\\b\f\n\r\t", letters[] = "\"\\bfnrt";
+    size_t kept = 0;
+    while (*text != '\0') {
+        const unsigned char *next = (const unsigned char *)text;
+        size_t size = character_size(next);
+        size_t written = size == 0 ? 3 : size;
+        const char *found = size == 1 ? strchr(escaped, *text) : NULL;
+        bool is_control = size == 1 ? *next < 0x20 || *next == 0x7f : size == 2 && *next == 0xc2 && next[1] < 0xa0;
+        bool is_separator = size == 3 && *next == 0xe2 && next[1] == 0x80 && (next[2] == 0xa8 || next[2] == 0xa9);
+        kept += written;
+        if (kept > MONITOR_NOTE_BYTE_LIMIT)
+            return;
+        if (size == 0) {
+            put(line, "\xef\xbf\xbd");
+        } else if (found != NULL) {
+            put(line, "\\");
+            put_bytes(line, letters + (found - escaped), 1);
+        } else if (is_control || is_separator) {
+            char escape[8];
+            unsigned point = size == 1 ? *next : size == 2 ? next[1] : 0x2000u + (next[2] & 0x3fu);
+            snprintf(escape, sizeof escape, "\\u%04x", point);
+            put(line, escape);
+        } else {
+            put_bytes(line, text, size);
+        }
+        text += size == 0 ? 1 : size;
+    }
+}
+
+/* The note of an event with this number. */
+static void put_note(line_text *line, const char *process, size_t event, const monitor_note *note)
+{
+    char number[64];
+    struct timespec now;
+    clock_gettime(CLOCK_REALTIME, &now);
+    put(line, "{\"process\": \"");
+    put(line, process);
+    snprintf(number, sizeof number, "\", \"event\": %zu, \"text\": \"", event);
+    put(line, number);
+    if (note != NULL && note->text != NULL)
+        put_note_text(line, note->text);
+    put(line, "\", \"place\": \"");
+    if (note != NULL && note->file != NULL) {
+        put_note_text(line, note->file);
+        snprintf(number, sizeof number, ":%d", note->line);
+        put(line, number);
+    }
+    snprintf(number, sizeof number, "\", \"clock\": %" PRIdMAX ".%06ld}\n", (intmax_t)now.tv_sec, now.tv_nsec / 1000);
+    put(line, number);
+}
+
+/* Writes the note of the event whose line is written next, if the events have notes: so each event of a stream has its
+ * note. */
+static monitor_status write_note(monitor_recorder *recorder, const monitor_note *note)
+{
+    char room[NOTE_ROOM];
+    line_text line = {room, 0};
+    if (recorder->notes < 0)
+        return MONITOR_RECORDED;
+    put_note(&line, recorder->process, recorder->events + 1, note);
+    return write_to(recorder, recorder->notes, false, &line);
 }
 
 static bool is_id(const char *id)
@@ -279,8 +359,10 @@ monitor_status monitor_to_descriptor(const char *process, int descriptor, monito
     strcpy(recorder->process, process);
     recorder->owner = getpid();
     recorder->descriptor = descriptor;
+    recorder->notes = -1;
     recorder->is_socket = S_ISSOCK(kind.st_mode);
-    line_text line = {.size = 0};
+    char room[LINE_ROOM];
+    line_text line = {room, 0};
     put_event(&line, "process", process, NULL, 0);
     if (write_line(recorder, &line) != MONITOR_RECORDED) {
         int reason = errno;
@@ -306,9 +388,70 @@ static monitor_status over_own_descriptor(const char *process, int descriptor, m
     return status;
 }
 
-static int new_file(const char *path)
+/* The same, with the notes if there are some, and both are closed if it fails. */
+static monitor_status over_files(const char *process, int descriptor, int notes, monitor_recorder **made)
 {
-    return open(path, O_WRONLY | O_CREAT | O_EXCL | O_CLOEXEC, 0666);
+    monitor_status status = over_own_descriptor(process, descriptor, made);
+    int reason = errno;
+    if (status == MONITOR_RECORDED)
+        (*made)->notes = notes;
+    else if (notes >= 0)
+        close(notes);
+    errno = reason;
+    return status;
+}
+
+static int new_file(const char *path, int options)
+{
+    int flags = (options & MONITOR_REPLACE) != 0 ? O_TRUNC : O_EXCL;
+    return open(path, O_WRONLY | O_CREAT | O_CLOEXEC | flags, 0666);
+}
+
+/* Whether the path is one beside which there can be notes. */
+static bool has_ending(const char *path)
+{
+    size_t size = strlen(path);
+    return size >= sizeof ending - 1 && strcmp(path + size - (sizeof ending - 1), ending) == 0;
+}
+
+/* Opens the file of the notes of a stream, if it is to have some; otherwise it is -1. What is replaced has no notes any
+ * more. False with errno if the system refuses. */
+static bool open_notes(const char *path, int options, int *notes)
+{
+    *notes = -1;
+    if ((options & (MONITOR_NOTES | MONITOR_REPLACE)) == 0 || !has_ending(path))
+        return true;
+    size_t stem = strlen(path) - (sizeof ending - 1);
+    char *beside = malloc(stem + sizeof notes_ending);
+    if (beside == NULL)
+        return false;
+    memcpy(beside, path, stem);
+    memcpy(beside + stem, notes_ending, sizeof notes_ending);
+    bool is_done = false;
+    if ((options & MONITOR_NOTES) != 0) {
+        *notes = new_file(beside, options);
+        is_done = *notes >= 0;
+    } else {
+        is_done = unlink(beside) == 0 || errno == ENOENT;
+    }
+    int reason = errno;
+    free(beside);
+    errno = reason;
+    return is_done;
+}
+
+/* Opens the file of a stream and that of its notes; -1 with errno if one can't be. */
+static int open_files(const char *path, int options, int *notes)
+{
+    int descriptor = new_file(path, options);
+    if (descriptor < 0 || open_notes(path, options, notes))
+        return descriptor;
+    int reason = errno;
+    close(descriptor);
+    if ((options & MONITOR_REPLACE) == 0)
+        unlink(path);
+    errno = reason;
+    return -1;
 }
 
 /* The folder of the file, with a slash at its end: from the root, since the working directory may change. */
@@ -327,21 +470,31 @@ static char *folder_of(const char *path)
     return folder;
 }
 
-monitor_status monitor_to_file(const char *process, const char *path, monitor_recorder **made)
+monitor_status monitor_to_file_with(const char *process, const char *path, int options, monitor_recorder **made)
 {
+    int notes = -1;
     *made = NULL;
     if (!is_name(process))
         return MONITOR_PROCESS_NAME;
+    if ((options & MONITOR_NOTES) != 0 && !has_ending(path))
+        return MONITOR_NO_NOTES;
     char *folder = folder_of(path);
     if (folder == NULL)
         return MONITOR_SYSTEM;
-    int descriptor = new_file(path);
-    monitor_status status = descriptor < 0 ? MONITOR_SYSTEM : over_own_descriptor(process, descriptor, made);
-    if (status == MONITOR_RECORDED)
+    int descriptor = open_files(path, options, &notes);
+    monitor_status status = descriptor < 0 ? MONITOR_SYSTEM : over_files(process, descriptor, notes, made);
+    if (status == MONITOR_RECORDED) {
         (*made)->folder = folder;
-    else
+        (*made)->options = options;
+    } else {
         free(folder);
+    }
     return status;
+}
+
+monitor_status monitor_to_file(const char *process, const char *path, monitor_recorder **made)
+{
+    return monitor_to_file_with(process, path, 0, made);
 }
 
 /* Whether both ends are one: so a connection can come to be to a port that nobody has bound. */
@@ -422,7 +575,21 @@ static const char *port_digits(const char *place)
     return NULL;
 }
 
+/* The options, and notes if the environment says so; -1 if it says what it can't. */
+static int with_environment(int options)
+{
+    const char *text = getenv("MONITOR_NOTES");
+    if (text == NULL || text[0] == '\0' || strcmp(text, "0") == 0)
+        return options;
+    return strcmp(text, "1") == 0 ? options | MONITOR_NOTES : -1;
+}
+
 monitor_status monitor_from_environment(const char *process, monitor_recorder **made)
+{
+    return monitor_from_environment_with(process, 0, made);
+}
+
+monitor_status monitor_from_environment_with(const char *process, int options, monitor_recorder **made)
 {
     *made = NULL;
     if (!is_name(process))
@@ -431,6 +598,9 @@ monitor_status monitor_from_environment(const char *process, monitor_recorder **
     if (place == NULL || place[0] == '\0')
         return MONITOR_WHERE;
     const char *digits = port_digits(place);
+    options = with_environment(options);
+    if (options < 0 || (digits != NULL && (options & MONITOR_NOTES) != 0))
+        return MONITOR_NO_NOTES;
     if (digits != NULL) {
         long port = strtol(digits, NULL, 10);
         return port < 1 || port > 65534 ? MONITOR_WHERE : monitor_to_port(process, (uint16_t)port, 10, made);
@@ -442,7 +612,7 @@ monitor_status monitor_from_environment(const char *process, monitor_recorder **
     if (path == NULL)
         return MONITOR_SYSTEM;
     snprintf(path, room, "%s/%s.stream", place, process);
-    monitor_status status = monitor_to_file(process, path, made);
+    monitor_status status = monitor_to_file_with(process, path, options, made);
     int error = errno;
     free(path);
     errno = error;
@@ -460,8 +630,8 @@ static monitor_status room_of(const monitor_recorder *recorder)
     return recorder->events < limit ? MONITOR_RECORDED : MONITOR_EVENTS;
 }
 
-/* Checks the message and the variables of an event, and writes its line; the lock is held. */
-static monitor_status record(monitor_recorder *recorder, const char *field, const char *id,
+/* Checks the message and the variables of an event, and writes its note and its line; the lock is held. */
+static monitor_status record(const monitor_note *note, monitor_recorder *recorder, const char *field, const char *id,
                              const monitor_setting *settings, size_t count)
 {
     if (id != NULL && !is_id(id))
@@ -469,9 +639,12 @@ static monitor_status record(monitor_recorder *recorder, const char *field, cons
     if (id != NULL && *slot_of(recorder, id) != 0)
         return MONITOR_ID_TWICE;
     monitor_status status = check_settings(recorder, settings, count);
+    if (status == MONITOR_RECORDED)
+        status = write_note(recorder, note);
     if (status != MONITOR_RECORDED)
         return status;
-    line_text line = {.size = 0};
+    char room[LINE_ROOM];
+    line_text line = {room, 0};
     put_event(&line, field, id, settings, count);
     status = write_line(recorder, &line);
     if (status != MONITOR_RECORDED)
@@ -483,34 +656,35 @@ static monitor_status record(monitor_recorder *recorder, const char *field, cons
     return MONITOR_RECORDED;
 }
 
-static monitor_status record_locked(monitor_recorder *recorder, const char *field, const char *id,
-                                    const monitor_setting *settings, size_t count)
+static monitor_status record_locked(const monitor_note *note, monitor_recorder *recorder, const char *field,
+                                    const char *id, const monitor_setting *settings, size_t count)
 {
     if (getpid() != recorder->owner)
         return MONITOR_FORK;
     monitor_lock(recorder);
     monitor_status status = room_of(recorder);
     if (status == MONITOR_RECORDED)
-        status = record(recorder, field, id, settings, count);
+        status = record(note, recorder, field, id, settings, count);
     monitor_unlock(recorder);
     return status;
 }
 
-monitor_status monitor_event(monitor_recorder *recorder, const monitor_setting *settings, size_t count)
+monitor_status monitor_event_at(const monitor_note *note, monitor_recorder *recorder, const monitor_setting *settings,
+                                size_t count)
 {
-    return record_locked(recorder, NULL, NULL, settings, count);
+    return record_locked(note, recorder, NULL, NULL, settings, count);
 }
 
 /* Records a send with an id that it makes; the lock is held. */
-static monitor_status send_any(monitor_recorder *recorder, char id[MONITOR_ID_ROOM], const monitor_setting *settings,
-                               size_t count)
+static monitor_status send_any(const monitor_note *note, monitor_recorder *recorder, char id[MONITOR_ID_ROOM],
+                               const monitor_setting *settings, size_t count)
 {
     char made[MONITOR_ID_ROOM];
     size_t number = recorder->sends;
     do {
         snprintf(made, sizeof made, "%s-%zu", recorder->process, ++number);
     } while (*slot_of(recorder, made) != 0);
-    monitor_status status = record(recorder, "send", made, settings, count);
+    monitor_status status = record(note, recorder, "send", made, settings, count);
     if (status == MONITOR_RECORDED) {
         recorder->sends = number;
         strcpy(id, made);
@@ -518,8 +692,8 @@ static monitor_status send_any(monitor_recorder *recorder, char id[MONITOR_ID_RO
     return status;
 }
 
-monitor_status monitor_send(monitor_recorder *recorder, char id[MONITOR_ID_ROOM], const monitor_setting *settings,
-                            size_t count)
+monitor_status monitor_send_at(const monitor_note *note, monitor_recorder *recorder, char id[MONITOR_ID_ROOM],
+                               const monitor_setting *settings, size_t count)
 {
     id[0] = '\0';
     if (getpid() != recorder->owner)
@@ -527,21 +701,21 @@ monitor_status monitor_send(monitor_recorder *recorder, char id[MONITOR_ID_ROOM]
     monitor_lock(recorder);
     monitor_status status = room_of(recorder);
     if (status == MONITOR_RECORDED)
-        status = send_any(recorder, id, settings, count);
+        status = send_any(note, recorder, id, settings, count);
     monitor_unlock(recorder);
     return status;
 }
 
-monitor_status monitor_send_as(monitor_recorder *recorder, const char *id, const monitor_setting *settings,
-                               size_t count)
+monitor_status monitor_send_as_at(const monitor_note *note, monitor_recorder *recorder, const char *id,
+                                  const monitor_setting *settings, size_t count)
 {
-    return record_locked(recorder, "send", id == NULL ? "" : id, settings, count);
+    return record_locked(note, recorder, "send", id == NULL ? "" : id, settings, count);
 }
 
-monitor_status monitor_receive(monitor_recorder *recorder, const char *id, const monitor_setting *settings,
-                               size_t count)
+monitor_status monitor_receive_at(const monitor_note *note, monitor_recorder *recorder, const char *id,
+                                  const monitor_setting *settings, size_t count)
 {
-    return record_locked(recorder, "recv", id == NULL ? "" : id, settings, count);
+    return record_locked(note, recorder, "recv", id == NULL ? "" : id, settings, count);
 }
 
 void monitor_lock(monitor_recorder *recorder)
@@ -577,10 +751,17 @@ static monitor_status check_strand(const monitor_recorder *root, const char *nam
     return root->folder == NULL && root->port == 0 ? MONITOR_NO_PLACE : MONITOR_RECORDED;
 }
 
-/* Where the strand of this name is recorded; -1 with errno if that can't be opened. */
-static int descriptor_for(const monitor_recorder *root, const char *name)
+/* Whether the path is that of the process's own file, which isn't replaced. */
+static bool is_own_file(const monitor_recorder *root, const char *path)
 {
-    static const char ending[] = ".stream";
+    struct stat own, other;
+    return fstat(root->descriptor, &own) == 0 && stat(path, &other) == 0 && own.st_dev == other.st_dev &&
+           own.st_ino == other.st_ino;
+}
+
+/* Where the strand of this name is recorded, with its notes; -1 with errno if that can't be opened. */
+static int descriptor_for(const monitor_recorder *root, const char *name, int *notes)
+{
     if (root->folder == NULL)
         return connection_within(root->port, root->seconds);
     size_t room = strlen(root->folder) + strlen(name) + sizeof ending;
@@ -588,8 +769,9 @@ static int descriptor_for(const monitor_recorder *root, const char *name)
     if (path == NULL)
         return -1;
     snprintf(path, room, "%s%s%s", root->folder, name, ending);
-    int descriptor = new_file(path);
-    int reason = errno;
+    bool is_own = is_own_file(root, path);
+    int descriptor = is_own ? -1 : open_files(path, root->options, notes);
+    int reason = is_own ? EEXIST : errno;
     free(path);
     errno = reason;
     return descriptor;
@@ -601,8 +783,9 @@ static monitor_status begin_strand(monitor_recorder *root, const char *name, mon
     pthread_mutex_lock(&root->family);
     monitor_status status = check_strand(root, name);
     if (status == MONITOR_RECORDED) {
-        int descriptor = descriptor_for(root, name);
-        status = descriptor < 0 ? MONITOR_SYSTEM : over_own_descriptor(name, descriptor, made);
+        int notes = -1;
+        int descriptor = descriptor_for(root, name, &notes);
+        status = descriptor < 0 ? MONITOR_SYSTEM : over_files(name, descriptor, notes, made);
     }
     if (status == MONITOR_RECORDED) {
         (*made)->root = root;
@@ -612,20 +795,33 @@ static monitor_status begin_strand(monitor_recorder *root, const char *name, mon
     return status;
 }
 
-/* Closes the strand, of which the lock is held; it is kept. */
-static monitor_status close_strand(monitor_recorder *strand, monitor_status status)
+/* Closes the files or the connection; the status if that succeeds. */
+static monitor_status close_files(monitor_recorder *recorder, monitor_status status)
 {
     int reason = errno;
-    strand->is_ended = true;
-    if (close(strand->descriptor) != 0 && status == MONITOR_RECORDED) {
-        reason = errno;
+    bool is_closed = close(recorder->descriptor) == 0;
+    int failure = errno;
+    if (recorder->notes >= 0 && close(recorder->notes) != 0 && is_closed) {
+        is_closed = false;
+        failure = errno;
+    }
+    if (!is_closed && status == MONITOR_RECORDED) {
+        reason = failure;
         status = MONITOR_SYSTEM;
     }
     errno = reason;
     return status;
 }
 
-monitor_status monitor_strand(monitor_recorder *recorder, const char *name, monitor_recorder **made)
+/* Closes the strand, of which the lock is held; it is kept. */
+static monitor_status close_strand(monitor_recorder *strand, monitor_status status)
+{
+    strand->is_ended = true;
+    return close_files(strand, status);
+}
+
+monitor_status monitor_strand_at(const monitor_note *note, monitor_recorder *recorder, const char *name,
+                                 monitor_recorder **made)
 {
     char id[MONITOR_ID_ROOM];
     monitor_recorder *strand = NULL;
@@ -639,9 +835,9 @@ monitor_status monitor_strand(monitor_recorder *recorder, const char *name, moni
     if (status == MONITOR_RECORDED)
         status = begin_strand(recorder->root == NULL ? recorder : recorder->root, name, &strand);
     if (status == MONITOR_RECORDED) {
-        status = send_any(recorder, id, MONITOR_NOTHING);
+        status = send_any(note, recorder, id, MONITOR_NOTHING);
         if (status == MONITOR_RECORDED)
-            status = monitor_receive(strand, id, MONITOR_NOTHING);
+            status = monitor_receive_at(note, strand, id, MONITOR_NOTHING);
         if (status == MONITOR_RECORDED)
             *made = strand;
         else
@@ -651,8 +847,8 @@ monitor_status monitor_strand(monitor_recorder *recorder, const char *name, moni
     return status;
 }
 
-monitor_status monitor_join(monitor_recorder *recorder, monitor_recorder *strand, const monitor_setting *settings,
-                            size_t count)
+monitor_status monitor_join_at(const monitor_note *note, monitor_recorder *recorder, monitor_recorder *strand,
+                               const monitor_setting *settings, size_t count)
 {
     char last[MONITOR_ID_ROOM] = "";
     if (getpid() != recorder->owner)
@@ -665,14 +861,15 @@ monitor_status monitor_join(monitor_recorder *recorder, monitor_recorder *strand
     monitor_lock(recorder);
     monitor_status status = room_of(recorder);
     if (status == MONITOR_RECORDED)
-        status = last[0] == '\0' ? MONITOR_NOT_ENDED : record(recorder, "recv", last, settings, count);
+        status = last[0] == '\0' ? MONITOR_NOT_ENDED : record(note, recorder, "recv", last, settings, count);
     monitor_unlock(recorder);
     return status;
 }
 
 static monitor_status write_end(monitor_recorder *recorder)
 {
-    line_text line = {.size = 0};
+    char room[LINE_ROOM];
+    line_text line = {room, 0};
     if (recorder->is_broken)
         return MONITOR_BROKEN;
     put(&line, "{\"end\":true}\n");
@@ -680,14 +877,14 @@ static monitor_status write_end(monitor_recorder *recorder)
 }
 
 /* Ends a strand, with the message that whoever joins it receives. */
-static monitor_status end_strand(monitor_recorder *strand)
+static monitor_status end_strand(const monitor_note *note, monitor_recorder *strand)
 {
     monitor_status status = MONITOR_RECORDED;
     if (getpid() != strand->owner)
         return MONITOR_FORK;
     monitor_lock(strand);
     if (!strand->is_ended) {
-        status = strand->is_broken ? MONITOR_BROKEN : send_any(strand, strand->last, MONITOR_NOTHING);
+        status = strand->is_broken ? MONITOR_BROKEN : send_any(note, strand, strand->last, MONITOR_NOTHING);
         if (status == MONITOR_RECORDED)
             status = write_end(strand);
         status = close_strand(strand, status);
@@ -699,11 +896,9 @@ static monitor_status end_strand(monitor_recorder *strand)
 /* Closes the descriptor and gives the memory back; the status if that succeeds. */
 static monitor_status release(monitor_recorder *recorder, monitor_status status)
 {
+    if (!recorder->is_ended)
+        status = close_files(recorder, status);
     int reason = errno;
-    if (!recorder->is_ended && close(recorder->descriptor) != 0 && status == MONITOR_RECORDED) {
-        reason = errno;
-        status = MONITOR_SYSTEM;
-    }
     if (getpid() == recorder->owner) { /* in a fork, a thread that isn't there may hold them */
         pthread_mutex_destroy(&recorder->family);
         pthread_mutex_destroy(&recorder->lock);
@@ -732,10 +927,10 @@ static monitor_status release_strands(monitor_recorder *root, bool have_ends)
     return first;
 }
 
-monitor_status monitor_close(monitor_recorder *recorder)
+monitor_status monitor_close_at(const monitor_note *note, monitor_recorder *recorder)
 {
     if (recorder->root != NULL)
-        return end_strand(recorder);
+        return end_strand(note, recorder);
     bool is_fork = getpid() != recorder->owner;
     monitor_status strands = release_strands(recorder, !is_fork);
     int reason = errno;
@@ -746,10 +941,10 @@ monitor_status monitor_close(monitor_recorder *recorder)
     return strands;
 }
 
-void monitor_abandon(monitor_recorder *recorder)
+void monitor_abandon_at(const monitor_note *note, monitor_recorder *recorder)
 {
     if (recorder->root != NULL) {
-        end_strand(recorder);
+        end_strand(note, recorder);
         return;
     }
     release_strands(recorder, false);
@@ -775,6 +970,56 @@ const char *monitor_text(monitor_status status)
     case MONITOR_NO_PLACE: return "no place for the stream of a strand: record to a file or a port by its name";
     case MONITOR_NOT_ENDED: return "not a strand that has ended: wait for it, and then join it";
     case MONITOR_WHERE: return "MONITOR_TO names no place: it names a folder, or a port from 1 to 65534 as :7411";
+    case MONITOR_NO_NOTES:
+        return "no place for notes, which go beside a file whose name ends with .stream and to no port; MONITOR_NOTES is "
+               "1 for notes, and else 0 or not set";
     }
     return "not a status";
+}
+
+/* The calls by their names alone, whose events have no place. The header's macros of these names begin with a parenthesis
+ * right after them. */
+
+monitor_status(monitor_event)(monitor_recorder *recorder, const monitor_setting *settings, size_t count)
+{
+    return monitor_event_at(NULL, recorder, settings, count);
+}
+
+monitor_status(monitor_send)(monitor_recorder *recorder, char id[MONITOR_ID_ROOM], const monitor_setting *settings,
+                             size_t count)
+{
+    return monitor_send_at(NULL, recorder, id, settings, count);
+}
+
+monitor_status(monitor_send_as)(monitor_recorder *recorder, const char *id, const monitor_setting *settings,
+                                size_t count)
+{
+    return monitor_send_as_at(NULL, recorder, id, settings, count);
+}
+
+monitor_status(monitor_receive)(monitor_recorder *recorder, const char *id, const monitor_setting *settings,
+                                size_t count)
+{
+    return monitor_receive_at(NULL, recorder, id, settings, count);
+}
+
+monitor_status(monitor_strand)(monitor_recorder *recorder, const char *name, monitor_recorder **made)
+{
+    return monitor_strand_at(NULL, recorder, name, made);
+}
+
+monitor_status(monitor_join)(monitor_recorder *recorder, monitor_recorder *strand, const monitor_setting *settings,
+                             size_t count)
+{
+    return monitor_join_at(NULL, recorder, strand, settings, count);
+}
+
+monitor_status(monitor_close)(monitor_recorder *recorder)
+{
+    return monitor_close_at(NULL, recorder);
+}
+
+void(monitor_abandon)(monitor_recorder *recorder)
+{
+    monitor_abandon_at(NULL, recorder);
 }

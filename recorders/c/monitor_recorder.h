@@ -22,6 +22,12 @@
  *     ..
  *     monitor_join(recorder, worker, MONITOR_NOTHING); // AFTER the thread has been waited for
  *
+ * Events have no names. With MONITOR_NOTES each has a note in left.notes.jsonl, of the line of the program that
+ * recorded it, and of a text if one is given:
+ *
+ *     monitor_to_file_with("left", "left.stream", MONITOR_NOTES, &recorder);
+ *     monitor_event_at(MONITOR_NOTE("the lock is ours"), recorder, MONITOR_SET({"inside", 1}));
+ *
  * It is C11 with POSIX threads: compile monitor_recorder.c with the program, and link with -pthread. */
 #ifndef MONITOR_RECORDER_H
 #define MONITOR_RECORDER_H
@@ -38,6 +44,8 @@ extern "C" {
 #define MONITOR_PROCESS_LIMIT 16
 #define MONITOR_NAME_BYTE_LIMIT 32
 #define MONITOR_ID_BYTE_LIMIT 64
+/* At most so many bytes has a note of its text, and of its place's file: what is longer is cut. */
+#define MONITOR_NOTE_BYTE_LIMIT 1024
 /* The room that an id takes with the NUL after it. */
 #define MONITOR_ID_ROOM (MONITOR_ID_BYTE_LIMIT + 1)
 /* An array that is put an id into has this room at least: compilers of C warn of a shorter one, as of the text "x". */
@@ -78,11 +86,24 @@ typedef enum {
     MONITOR_PROCESSES,     /* a process and its strands are at most 16, since a session has no more processes */
     MONITOR_NO_PLACE,      /* the recorder was made for a descriptor: there is no place for the stream of a strand */
     MONITOR_NOT_ENDED,     /* what is to be joined is no strand that has ended */
-    MONITOR_WHERE          /* MONITOR_TO isn't set, or is a port that there isn't */
+    MONITOR_WHERE,         /* MONITOR_TO isn't set, or is a port that there isn't */
+    MONITOR_NO_NOTES       /* there is no place for notes, as at a port, or MONITOR_NOTES is neither 1 nor 0 */
 } monitor_status;
+
+/* How a file is recorded to: these, joined by |, or 0. */
+enum {
+    /* Each event gets a note, in a file beside: that of left.stream is left.notes.jsonl. The path has to end with
+     * .stream then. docs/RECORDING.md has the format. */
+    MONITOR_NOTES = 1,
+    /* A file that is there already is lost, with its notes. */
+    MONITOR_REPLACE = 2
+};
 
 /* Records to a new file. One that is there already is MONITOR_SYSTEM with EEXIST. */
 monitor_status monitor_to_file(const char *process, const char *path, monitor_recorder **made);
+
+/* The same, with options. */
+monitor_status monitor_to_file_with(const char *process, const char *path, int options, monitor_recorder **made);
 
 /* Records to `monitor serve` on a port of this machine. If nobody listens there yet, it is tried again until these
  * seconds have passed. A later call waits while the monitor doesn't read. */
@@ -90,8 +111,12 @@ monitor_status monitor_to_port(const char *process, uint16_t port, double second
 
 /* Records to where MONITOR_TO in the environment says, so that no code changes between a test and a live session: to a
  * new file NAME.stream in a folder of this name, which is made if there is none; or to `monitor serve` on a port of
- * this machine, of :7411 or localhost:7411, for which ten seconds are waited. */
+ * this machine, of :7411 or localhost:7411, for which ten seconds are waited. With MONITOR_NOTES=1 in the environment
+ * each event gets a note beside the file; a port has no place for notes, so the two together are MONITOR_NO_NOTES. */
 monitor_status monitor_from_environment(const char *process, monitor_recorder **made);
+
+/* The same, with options. */
+monitor_status monitor_from_environment_with(const char *process, int options, monitor_recorder **made);
 
 /* Records to a file, a pipe or a connection that is open for writing, and waits if it can't write. If this succeeds,
  * the descriptor is closed with the recorder. A pipe that nobody reads any more raises SIGPIPE. */
@@ -141,6 +166,42 @@ void monitor_abandon(monitor_recorder *recorder);
 
 /* What a status says, as a text. */
 const char *monitor_text(monitor_status status);
+
+/* What the note of an event says: the line of the program that records it, and a text, or NULL. */
+typedef struct {
+    const char *file;
+    int line;
+    const char *text;
+} monitor_note;
+
+/* The calls above, with what the note of their event says. With NULL the note has no place, as by the plain calls. */
+monitor_status monitor_event_at(const monitor_note *note, monitor_recorder *recorder, const monitor_setting *settings,
+                                size_t count);
+monitor_status monitor_send_at(const monitor_note *note, monitor_recorder *recorder, char id[MONITOR_ID_PLACE],
+                               const monitor_setting *settings, size_t count);
+monitor_status monitor_send_as_at(const monitor_note *note, monitor_recorder *recorder, const char *id,
+                                  const monitor_setting *settings, size_t count);
+monitor_status monitor_receive_at(const monitor_note *note, monitor_recorder *recorder, const char *id,
+                                  const monitor_setting *settings, size_t count);
+monitor_status monitor_strand_at(const monitor_note *note, monitor_recorder *recorder, const char *name,
+                                 monitor_recorder **made);
+monitor_status monitor_join_at(const monitor_note *note, monitor_recorder *recorder, monitor_recorder *strand,
+                               const monitor_setting *settings, size_t count);
+monitor_status monitor_close_at(const monitor_note *note, monitor_recorder *recorder);
+void monitor_abandon_at(const monitor_note *note, monitor_recorder *recorder);
+
+/* In C a call is one with the line in which it stands. C++ has monitor_recorder.hpp for that. */
+#ifndef __cplusplus
+#define MONITOR_NOTE(text) (&(const monitor_note){__FILE__, __LINE__, (text)})
+#define monitor_event(...) monitor_event_at(MONITOR_NOTE(NULL), __VA_ARGS__)
+#define monitor_send(...) monitor_send_at(MONITOR_NOTE(NULL), __VA_ARGS__)
+#define monitor_send_as(...) monitor_send_as_at(MONITOR_NOTE(NULL), __VA_ARGS__)
+#define monitor_receive(...) monitor_receive_at(MONITOR_NOTE(NULL), __VA_ARGS__)
+#define monitor_strand(...) monitor_strand_at(MONITOR_NOTE(NULL), __VA_ARGS__)
+#define monitor_join(...) monitor_join_at(MONITOR_NOTE(NULL), __VA_ARGS__)
+#define monitor_close(...) monitor_close_at(MONITOR_NOTE(NULL), __VA_ARGS__)
+#define monitor_abandon(...) monitor_abandon_at(MONITOR_NOTE(NULL), __VA_ARGS__)
+#endif
 
 #ifdef __cplusplus
 }

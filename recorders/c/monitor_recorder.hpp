@@ -14,6 +14,12 @@
  *     thread.join();
  *     left.join(worker);                                  // AFTER the thread has been waited for
  *
+ * Events have no names. With MONITOR_NOTES each has a note in left.notes.jsonl, of the line of the program that
+ * recorded it, and of a text if one is given:
+ *
+ *     auto left = monitor::Recorder::to_file("left", "left.stream", MONITOR_NOTES);
+ *     left.event({{"inside", 1}}, "the lock is ours");
+ *
  * What `monitor` would refuse is thrown as monitor::NotRecorded, and what the system refuses as std::system_error. Then
  * nothing is recorded, but for a part of a line that the system may have written. monitor_recorder.h says more.
  *
@@ -56,16 +62,42 @@ private:
     monitor_status status_;
 };
 
+/* What the note of an event says: a text, if there is one, and the line of the call of which this is the last argument,
+ * by itself. The text has to be there until that call returns. */
+class Note {
+public:
+    Note(const char *text = nullptr, const char *file = __builtin_FILE(), int line = __builtin_LINE()) noexcept
+        : said_{file, line, text}
+    {
+    }
+
+    Note(const std::string &text, const char *file = __builtin_FILE(), int line = __builtin_LINE()) noexcept
+        : said_{file, line, text.c_str()}
+    {
+    }
+
+    /* As the recorder for C takes it. */
+    const monitor_note *said() const noexcept { return &said_; }
+
+    /* The same place, without the text. */
+    Note place() const noexcept { return Note(nullptr, said_.file, said_.line); }
+
+private:
+    monitor_note said_;
+};
+
 /* One process of the session, or a strand of one. Several threads may record by it, and none while it is moved, ended,
  * closed or destroyed. */
 class Recorder {
 public:
-    /* Records to a new file. */
-    static Recorder to_file(const std::string &process, const std::string &path)
+    /* Records to a new file. Options are MONITOR_NOTES and MONITOR_REPLACE. */
+    static Recorder to_file(const std::string &process, const std::string &path, int options = 0)
     {
         if (path.find('\0') != std::string::npos)
             throw std::system_error(EINVAL, std::generic_category(), "a path with a NUL");
-        return made(process, [&](monitor_recorder **to) { return monitor_to_file(process.c_str(), path.c_str(), to); });
+        return made(process, [&](monitor_recorder **to) {
+            return monitor_to_file_with(process.c_str(), path.c_str(), options, to);
+        });
     }
 
     /* Records to `monitor serve` on a port of this machine, for which these seconds are waited. */
@@ -76,9 +108,11 @@ public:
     }
 
     /* Records to the folder or port that MONITOR_TO names. */
-    static Recorder from_environment(const std::string &process)
+    static Recorder from_environment(const std::string &process, int options = 0)
     {
-        return made(process, [&](monitor_recorder **to) { return monitor_from_environment(process.c_str(), to); });
+        return made(process, [&](monitor_recorder **to) {
+            return monitor_from_environment_with(process.c_str(), options, to);
+        });
     }
 
     /* Records to what is open for writing, which is closed with the recorder if this succeeds. */
@@ -90,7 +124,7 @@ public:
 
     Recorder(Recorder &&other) noexcept
         : handle_(std::exchange(other.handle_, nullptr)), family_(std::move(other.family_)),
-          is_strand_(other.is_strand_)
+          is_strand_(other.is_strand_), begun_(other.begun_)
     {
     }
 
@@ -101,6 +135,7 @@ public:
             handle_ = std::exchange(other.handle_, nullptr);
             family_ = std::move(other.family_);
             is_strand_ = other.is_strand_;
+            begun_ = other.begun_;
         }
         return *this;
     }
@@ -111,46 +146,49 @@ public:
     ~Recorder() { close(); }
 
     /* Something happened in this process. */
-    void event(const Settings &settings = {}) { check(monitor_event(use(), settings.data(), settings.size())); }
+    void event(const Settings &settings = {}, const Note &note = {})
+    {
+        check(monitor_event_at(note.said(), use(), settings.data(), settings.size()));
+    }
 
     /* This process sends a message: BEFORE it leaves. The id that is made has to travel with it. */
-    std::string send(const Settings &settings = {})
+    std::string send(const Settings &settings = {}, const Note &note = {})
     {
         char id[MONITOR_ID_ROOM];
-        check(monitor_send(use(), id, settings.data(), settings.size()));
+        check(monitor_send_at(note.said(), use(), id, settings.data(), settings.size()));
         return id;
     }
 
     /* The same, with an id that no other send of the session has. */
-    void send_as(const std::string &id, const Settings &settings = {})
+    void send_as(const std::string &id, const Settings &settings = {}, const Note &note = {})
     {
         check_text(id, MONITOR_ID);
-        check(monitor_send_as(use(), id.c_str(), settings.data(), settings.size()));
+        check(monitor_send_as_at(note.said(), use(), id.c_str(), settings.data(), settings.size()));
     }
 
     /* A message has come, with this id: AFTER that. */
-    void receive(const std::string &id, const Settings &settings = {})
+    void receive(const std::string &id, const Settings &settings = {}, const Note &note = {})
     {
         check_text(id, MONITOR_ID);
-        check(monitor_receive(use(), id.c_str(), settings.data(), settings.size()));
+        check(monitor_receive_at(note.said(), use(), id.c_str(), settings.data(), settings.size()));
     }
 
     /* Begins a strand, for a thread that waits by itself: where the thread is started. */
-    Recorder strand(const std::string &name)
+    Recorder strand(const std::string &name, const Note &note = {})
     {
         check_text(name, MONITOR_PROCESS_NAME);
         monitor_recorder *begun = nullptr;
-        check(monitor_strand(use(), name.c_str(), &begun));
-        return Recorder(begun, family_, true);
+        check(monitor_strand_at(note.said(), use(), name.c_str(), &begun));
+        return Recorder(begun, family_, true, note.place());
     }
 
     /* This process has waited for a strand, which has ended: AFTER that. */
-    void join(const Recorder &strand, const Settings &settings = {})
+    void join(const Recorder &strand, const Settings &settings = {}, const Note &note = {})
     {
         monitor_recorder *mine = use();
         if (!strand.is_there())
             throw NotRecorded(MONITOR_NOT_ENDED);
-        check(monitor_join(mine, strand.handle_, settings.data(), settings.size()));
+        check(monitor_join_at(note.said(), mine, strand.handle_, settings.data(), settings.size()));
     }
 
     /* How many events are recorded. */
@@ -162,17 +200,18 @@ public:
 
     /* Nothing more happens in this process: writes the end line, also of its strands that have not ended. They are gone
      * with it, as their memory is, and can't be joined any more. A strand only ends. */
-    void end()
+    void end(const Note &note = {})
     {
         if (handle_ != nullptr)
-            check(finish([](monitor_recorder *recorder) { return monitor_close(recorder); }));
+            check(finish([&](monitor_recorder *recorder) { return monitor_close_at(note.said(), recorder); }));
     }
 
-    /* The same without end lines, as the destructor does. A strand ends by it too. */
+    /* The same without end lines, as the destructor does. A strand ends by it too, and the note of that has the place
+     * at which it was begun. */
     void close() noexcept
     {
-        finish([](monitor_recorder *recorder) {
-            monitor_abandon(recorder);
+        finish([&](monitor_recorder *recorder) {
+            monitor_abandon_at(begun_.said(), recorder);
             return MONITOR_RECORDED;
         });
     }
@@ -184,8 +223,8 @@ private:
         std::atomic<bool> is_gone{false};
     };
 
-    Recorder(monitor_recorder *handle, std::shared_ptr<Family> family, bool is_strand) noexcept
-        : handle_(handle), family_(std::move(family)), is_strand_(is_strand)
+    Recorder(monitor_recorder *handle, std::shared_ptr<Family> family, bool is_strand, const Note &begun = {}) noexcept
+        : handle_(handle), family_(std::move(family)), is_strand_(is_strand), begun_(begun)
     {
     }
 
@@ -237,6 +276,7 @@ private:
     monitor_recorder *handle_;
     std::shared_ptr<Family> family_;
     bool is_strand_;
+    Note begun_;
 };
 
 } // namespace monitor

@@ -10,7 +10,7 @@
 #include <stdlib.h>
 #include <string.h>
 
-enum { WORDS = 40, THREADS = 16, ROOM = 1 << 16 };
+enum { WORDS = 40, THREADS = 16, ROOM = 1 << 21 };
 
 typedef struct {
     int number, turns;
@@ -19,6 +19,7 @@ typedef struct {
 
 static monitor_recorder *recorder;
 static int total;
+static const char *said; /* the text of the note of the call, if it has one */
 
 /* The recorder of the process and those of its strands, with the names by which they are called. */
 static struct {
@@ -104,7 +105,7 @@ static void answer_status(monitor_status status, const char *id)
         [MONITOR_FORK] = "refused fork", [MONITOR_BROKEN] = "refused broken", [MONITOR_SYSTEM] = "failed",
         [MONITOR_ENDED] = "refused ended", [MONITOR_NAME_TWICE] = "refused name-twice",
         [MONITOR_PROCESSES] = "refused processes", [MONITOR_NO_PLACE] = "refused no-place",
-        [MONITOR_NOT_ENDED] = "refused not-ended"};
+        [MONITOR_NOT_ENDED] = "refused not-ended", [MONITOR_NO_NOTES] = "refused notes"};
     answer(texts[status], status == MONITOR_RECORDED ? id : "");
 }
 
@@ -181,6 +182,10 @@ static bool open_or_close(char **words)
     bool is_strand = recorder != NULL && named_count > 0 && recorder != named[0].recorder;
     if (strcmp(words[0], "file") == 0) {
         status = monitor_to_file(text_of(words[1]), text_of(words[2]), &recorder);
+    } else if (strcmp(words[0], "noted") == 0) {
+        status = monitor_to_file_with(text_of(words[1]), text_of(words[2]), MONITOR_NOTES, &recorder);
+    } else if (strcmp(words[0], "replaced") == 0) {
+        status = monitor_to_file_with(text_of(words[1]), text_of(words[2]), MONITOR_REPLACE, &recorder);
     } else if (strcmp(words[0], "port") == 0) {
         status = monitor_to_port(text_of(words[1]), (uint16_t)atoi(words[2]), atof(words[3]), &recorder);
     } else if (strcmp(words[0], "close") == 0) {
@@ -202,7 +207,7 @@ static bool open_or_close(char **words)
 }
 
 /* Runs so many threads, each with a strand of its own, and says whether all was recorded. */
-static bool take_strands(int count, int turns)
+static bool with_strands(void *(*work_of)(void *), int count, int turns)
 {
     monitor_recorder *strands[THREADS];
     char name[24];
@@ -212,7 +217,7 @@ static bool take_strands(int count, int turns)
             return false;
     }
     taken = strands;
-    bool is_done = run(take_strand, count, turns);
+    bool is_done = run(work_of, count, turns);
     for (int i = 0; i < count; i++)
         is_done = monitor_join(recorder, strands[i], MONITOR_NOTHING) == MONITOR_RECORDED && is_done;
     return is_done;
@@ -230,7 +235,9 @@ static bool begin_or_join(char **words, size_t count)
         keep_named(name, strand);
         answer_status(status, "");
     } else if (strcmp(words[0], "join") == 0 && are_settings(words + 2, count - 2, settings)) {
-        answer_status(monitor_join(recorder, find_named(words[1]), settings, count - 2), "");
+        monitor_recorder *strand = find_named(words[1]);
+        answer_status(said != NULL ? monitor_join_at(MONITOR_NOTE(said), recorder, strand, settings, count - 2)
+                                   : monitor_join(recorder, strand, settings, count - 2), "");
     } else {
         return false;
     }
@@ -240,11 +247,23 @@ static bool begin_or_join(char **words, size_t count)
 /* Whether C has no such call: its send puts a text into its place, and takes none, and no lock or queue is recorded. */
 static bool is_lacking(const char *call)
 {
-    static const char *const lacking[] = {"send-text", "lock", "unlock", "put", "take"};
+    static const char *const lacking[] = {"send-text", "lock", "unlock", "locked", "unlocked", "put", "take"};
     for (size_t i = 0; i < sizeof lacking / sizeof lacking[0]; i++)
         if (strcmp(call, lacking[i]) == 0)
             return true;
     return false;
+}
+
+/* Makes a call that records an event, and gives a text for its note. */
+static monitor_status record_noted(char **words, char *id, const monitor_setting *settings, size_t count)
+{
+    if (strcmp(words[0], "event") == 0)
+        return monitor_event_at(MONITOR_NOTE(said), recorder, settings, count);
+    if (strcmp(words[0], "send") == 0)
+        return monitor_send_at(MONITOR_NOTE(said), recorder, id, settings, count);
+    if (strcmp(words[0], "send-as") == 0)
+        return monitor_send_as_at(MONITOR_NOTE(said), recorder, text_of(words[1]), settings, count);
+    return monitor_receive_at(MONITOR_NOTE(said), recorder, text_of(words[1]), settings, count);
 }
 
 static void record(char **words, size_t count)
@@ -257,7 +276,9 @@ static void record(char **words, size_t count)
         answer("cannot", "");
         return;
     }
-    if (strcmp(words[0], "event") == 0)
+    if (said != NULL)
+        answer_status(record_noted(words, id, settings, count - first), id);
+    else if (strcmp(words[0], "event") == 0)
         answer_status(monitor_event(recorder, settings, count - first), "");
     else if (strcmp(words[0], "send") == 0)
         answer_status(monitor_send(recorder, id, settings, count - first), id);
@@ -277,6 +298,12 @@ static void make(char **words, size_t count)
         recorder = process;
         return;
     }
+    if (strcmp(words[0], "note") == 0) {
+        said = text_of(words[1]);
+        make(words + 2, count - 2);
+        said = NULL;
+        return;
+    }
     if (open_or_close(words))
         return;
     if (recorder == NULL) { /* it is gone with its end */
@@ -289,7 +316,7 @@ static void make(char **words, size_t count)
     } else if (strcmp(words[0], "flood") == 0) {
         answer(run(send_all, atoi(words[1]), 0) ? "recorded" : "failed", "");
     } else if (strcmp(words[0], "strands") == 0) {
-        answer(take_strands(atoi(words[1]), atoi(words[2])) ? "recorded" : "failed", "");
+        answer(with_strands(take_strand, atoi(words[1]), atoi(words[2])) ? "recorded" : "failed", "");
     } else if (!begin_or_join(words, count)) {
         record(words, count);
     }

@@ -27,6 +27,7 @@ struct Cannot {};
 std::optional<Recorder> process;
 std::string process_word;
 std::map<std::string, Recorder> strands;
+std::optional<std::string> said; /* the text of the note of the call, if it has one */
 std::mutex printing;
 
 void answer(const std::string &text, const std::string &id = "")
@@ -44,7 +45,7 @@ const char *word_of(monitor_status status)
         {MONITOR_FORK, "fork"},                 {MONITOR_BROKEN, "broken"},
         {MONITOR_ENDED, "ended"},               {MONITOR_NAME_TWICE, "name-twice"},
         {MONITOR_PROCESSES, "processes"},       {MONITOR_NO_PLACE, "no-place"},
-        {MONITOR_NOT_ENDED, "not-ended"}};
+        {MONITOR_NOT_ENDED, "not-ended"},       {MONITOR_NO_NOTES, "notes"}};
     return words.at(status);
 }
 
@@ -138,14 +139,15 @@ bool send_all(Recorder &recorder, int count)
     });
 }
 
-bool take_strands(Recorder &recorder, int count, int turns)
+/* Runs so many threads, each with a strand of its own that takes turns, and says whether all was recorded. */
+bool with_strands(Recorder &recorder, int count, int turns, const std::function<void(Recorder &, int)> &take_turn)
 {
     std::vector<Recorder> begun;
     for (int i = 0; i < count; i++)
         begun.push_back(recorder.strand("strand" + std::to_string(i)));
     bool is_done = run(count, [&](int number) {
         for (int turn = 0; turn < turns; turn++)
-            begun[number].event({{"x", turn}});
+            take_turn(begun[number], turn);
         begun[number].end();
     });
     for (Recorder &strand : begun)
@@ -153,11 +155,20 @@ bool take_strands(Recorder &recorder, int count, int turns)
     return is_done;
 }
 
+bool take_strands(Recorder &recorder, int count, int turns)
+{
+    return with_strands(recorder, count, turns, [](Recorder &strand, int turn) { strand.event({{"x", turn}}); });
+}
+
 /* Makes a recording and answers, if the call is one that does so. */
 bool open(const Words &words)
 {
     if (words[0] == "file")
         process = Recorder::to_file(text_of(words[1]), text_of(words[2]));
+    else if (words[0] == "noted")
+        process = Recorder::to_file(text_of(words[1]), text_of(words[2]), MONITOR_NOTES);
+    else if (words[0] == "replaced")
+        process = Recorder::to_file(text_of(words[1]), text_of(words[2]), MONITOR_REPLACE);
     else if (words[0] == "port")
         process = Recorder::to_port(text_of(words[1]), static_cast<std::uint16_t>(std::stoi(words[2])),
                                     std::stod(words[3]));
@@ -179,9 +190,30 @@ Recorder &called(const std::string &word)
     return *process;
 }
 
+/* Makes a call that records an event, and gives a text for its note. */
+std::string record_noted(Recorder &recorder, const Words &words)
+{
+    const std::string &call = words[0];
+    if (call == "join")
+        recorder.join(called(words[1]), Given(words, 2).settings(), *said);
+    else if (call == "event")
+        recorder.event(Given(words, 1).settings(), *said);
+    else if (call == "send")
+        return recorder.send(Given(words, 1).settings(), *said);
+    else if (call == "send-as")
+        recorder.send_as(text_of(words[1]), Given(words, 2).settings(), *said);
+    else if (call == "receive")
+        recorder.receive(text_of(words[1]), Given(words, 2).settings(), said->c_str());
+    else
+        throw Cannot();
+    return "";
+}
+
 /* Makes a call that records one event or none, and gives what is answered with it. */
 std::string record(Recorder &recorder, const Words &words)
 {
+    if (said)
+        return record_noted(recorder, words);
     const std::string &call = words[0];
     if (call == "end")
         recorder.end();
@@ -208,6 +240,9 @@ void make(Recorder *recorder, const Words &words)
 {
     if (words[0] == "in") {
         make(&called(words[1]), {words.begin() + 2, words.end()});
+    } else if (words[0] == "note") {
+        said = text_of(words[1]);
+        make(recorder, {words.begin() + 2, words.end()});
     } else if (words[0] == "close") {
         if (recorder != nullptr)
             recorder->close();
@@ -234,6 +269,7 @@ int main()
     for (std::string line; std::getline(std::cin, line);) {
         std::istringstream rest(line);
         Words words;
+        said.reset();
         for (std::string word; rest >> word;)
             words.push_back(word);
         try {

@@ -212,6 +212,112 @@ static void test_a_place_that_the_environment_names(void)
     CHECK(monitor_from_environment("left", &recorder) == MONITOR_WHERE);
 }
 
+/* Sees that the file has so many notes of this process, and that the last one has this text and this line. */
+#define NOTES(file, process, count, text, line) see_notes(file, process, count, text, line, __LINE__)
+
+static void see_notes(const char *file, const char *process, int count, const char *text, int line, int here)
+{
+    char head[512], *notes = text_of(file), *last = notes;
+    int found = 0;
+    for (char *next = notes; *next != '\0'; next = strchr(next, '\n') + 1, found++)
+        last = next;
+    snprintf(head, sizeof head, "{\"process\": \"%s\", \"event\": %d, \"text\": \"%s\", \"place\": \"%s%s%.0d", process,
+             count, text, line == 0 ? "" : __FILE__, line == 0 ? "" : ":", line);
+    bool is_so = found == count && strncmp(last, head, strlen(head)) == 0 &&
+                 strncmp(last + strlen(head), "\", \"clock\": ", 12) == 0;
+    if (!is_so) {
+        failures++;
+        printf("%s:%d: not so: the notes are\n%sand the last one doesn't begin\n%s\n", __FILE__, here, notes, head);
+    }
+    free(notes);
+}
+
+static bool is_there(const char *name)
+{
+    return access(name, F_OK) == 0;
+}
+
+static monitor_recorder *opened_with(const char *name, int options)
+{
+    monitor_recorder *recorder = NULL;
+    RECORDED(monitor_to_file_with("left", name, options | MONITOR_REPLACE, &recorder));
+    return recorder;
+}
+
+static void test_notes(void)
+{
+    monitor_recorder *worker, *left = opened_with("left.stream", MONITOR_NOTES);
+    char id[MONITOR_ID_ROOM];
+    RECORDED(monitor_event_at(MONITOR_NOTE("said \xff\xc3"), left, MONITOR_SET({"x", 1}, {"y", 2})));
+    NOTES("left.notes.jsonl", "left", 1, "said \xef\xbf\xbd\xef\xbf\xbd", __LINE__ - 1);
+    RECORDED(monitor_send(left, id, MONITOR_NOTHING));
+    NOTES("left.notes.jsonl", "left", 2, "", __LINE__ - 1);
+    RECORDED((monitor_send_as)(left, "own", MONITOR_NOTHING));
+    NOTES("left.notes.jsonl", "left", 3, "", 0);
+    RECORDED(monitor_receive_at(&(monitor_note){NULL, 7, "came"}, left, "other", MONITOR_NOTHING));
+    NOTES("left.notes.jsonl", "left", 4, "came", 0);
+    RECORDED(monitor_strand(left, "worker", &worker));
+    NOTES("left.notes.jsonl", "left", 5, "", __LINE__ - 1);
+    NOTES("worker.notes.jsonl", "worker", 1, "", __LINE__ - 2);
+    monitor_abandon(worker);
+    NOTES("worker.notes.jsonl", "worker", 2, "", __LINE__ - 1);
+    RECORDED(monitor_join(left, worker, MONITOR_NOTHING));
+    NOTES("left.notes.jsonl", "left", 6, "", __LINE__ - 1);
+    CHECK(monitor_event_at(MONITOR_NOTE("refused"), left, MONITOR_SET({"1", 1})) == MONITOR_VARIABLE_NAME);
+    NOTES("left.notes.jsonl", "left", 6, "", __LINE__ - 3);
+    RECORDED(monitor_close(left));
+    NOTES("left.notes.jsonl", "left", 6, "", __LINE__ - 5);
+}
+
+static void test_files_that_are_replaced(void)
+{
+    monitor_recorder *recorder;
+    CHECK(monitor_to_file_with("left", "left.txt", MONITOR_NOTES, &recorder) == MONITOR_NO_NOTES && recorder == NULL);
+    CHECK(monitor_to_file_with("left", "stream", MONITOR_NOTES, &recorder) == MONITOR_NO_NOTES);
+    RECORDED(monitor_close(opened_with("left.stream", MONITOR_NOTES)));
+    CHECK(is_there("left.notes.jsonl"));
+    unlink("left.stream");
+    CHECK(monitor_to_file_with("left", "left.stream", MONITOR_NOTES, &recorder) == MONITOR_SYSTEM && errno == EEXIST);
+    CHECK(is_there("left.notes.jsonl") && !is_there("left.stream"));
+    recorder = opened_with("left.stream", 0);
+    CHECK(!is_there("left.notes.jsonl"));
+    monitor_recorder *strand;
+    RECORDED(monitor_strand(recorder, "worker", &strand));
+    CHECK(!is_there("worker.notes.jsonl"));
+    RECORDED(monitor_close(recorder));
+    CHECK(has_text("left.stream", "{\"process\":\"left\"}\n{\"send\":\"left-1\"}\n{\"end\":true}\n"));
+    RECORDED(monitor_to_file_with("other", "left.stream", MONITOR_REPLACE, &recorder));
+    CHECK(monitor_strand(recorder, "left", &strand) == MONITOR_SYSTEM && errno == EEXIST);
+    RECORDED(monitor_close(recorder));
+    unlink("left.notes.jsonl");
+    CHECK(symlink("/dev/full", "left.notes.jsonl") == 0);
+    recorder = opened_with("left.stream", MONITOR_NOTES);
+    CHECK(monitor_event(recorder, MONITOR_NOTHING) == MONITOR_SYSTEM && errno == ENOSPC);
+    CHECK(monitor_event(recorder, MONITOR_NOTHING) == MONITOR_BROKEN);
+    monitor_abandon(recorder);
+    CHECK(has_text("left.stream", "{\"process\":\"left\"}\n"));
+    unlink("left.notes.jsonl");
+}
+
+static void test_notes_of_the_environment(void)
+{
+    monitor_recorder *recorder;
+    for (int i = 0; i < 3; i++) {
+        setenv("MONITOR_TO", "into", 1);
+        setenv("MONITOR_NOTES", i == 0 ? "1" : i == 1 ? "0" : "", 1);
+        RECORDED(monitor_from_environment_with("left", MONITOR_REPLACE, &recorder));
+        RECORDED(monitor_close(recorder));
+        CHECK(is_there("into/left.notes.jsonl") == (i == 0));
+    }
+    setenv("MONITOR_NOTES", "yes", 1);
+    CHECK(monitor_from_environment("other", &recorder) == MONITOR_NO_NOTES && recorder == NULL);
+    setenv("MONITOR_NOTES", "1", 1);
+    setenv("MONITOR_TO", ":7411", 1);
+    CHECK(monitor_from_environment("other", &recorder) == MONITOR_NO_NOTES);
+    unsetenv("MONITOR_NOTES");
+    unsetenv("MONITOR_TO");
+}
+
 static monitor_recorder *strand_of(monitor_recorder *recorder, const char *name, const char *file)
 {
     monitor_recorder *strand = NULL;
@@ -342,5 +448,8 @@ int main(int count, char **arguments)
     test_the_working_directory_may_change();
     test_strands_that_cannot_be_opened();
     test_a_fork_does_not_record_to_strands();
+    test_notes();
+    test_files_that_are_replaced();
+    test_notes_of_the_environment();
     return failures > 0;
 }

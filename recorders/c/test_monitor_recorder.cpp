@@ -186,12 +186,57 @@ void test_locks()
 
 } // namespace
 
+/* Sees that a note of this process has this number and text, and this line of this file. */
+void see_note(const std::string &process, int number, const std::string &text, int line)
+{
+    std::string head = "{\"process\": \"" + process + "\", \"event\": " + std::to_string(number) + ", \"text\": \"" +
+                       text + "\", \"place\": \"" + __FILE__ + ":" + std::to_string(line) + "\", \"clock\": ";
+    if (text_of(process + ".notes.jsonl").find(head) == std::string::npos) {
+        failures++;
+        std::cout << "there is no note\n" << head << "\nin\n" << text_of(process + ".notes.jsonl");
+    }
+}
+
+void test_notes()
+{
+    const int both = MONITOR_NOTES | MONITOR_REPLACE;
+    std::optional<Recorder> left = Recorder::to_file("left", "left.stream", both);
+    left->event();
+    int line = __LINE__ - 1;
+    left->event({{"x", 1}}, "said");
+    std::string id = left->send({}, std::string("sent ") + "on");
+    left->send_as("own");
+    left->receive("other", {{"x", 2}}, "came");
+    {
+        Recorder worker = left->strand("worker");
+        worker.end();
+        left->join(worker, {}, "joined");
+        Recorder again = left->strand("again");
+        Recorder other = std::move(again);
+    }
+    left->end();
+    see_note("left", 1, "", line);
+    see_note("left", 2, "said", line + 2);
+    see_note("left", 3, "sent on", line + 3);
+    see_note("left", 4, "", line + 4);
+    see_note("left", 5, "came", line + 5);
+    see_note("left", 6, "", line + 7);
+    see_note("worker", 1, "", line + 7);
+    see_note("worker", 2, "", line + 8);
+    see_note("left", 7, "joined", line + 9);
+    see_note("again", 2, "", line + 10);
+    Recorder::to_file("left", "left.stream", MONITOR_REPLACE).end();
+    CHECK(text_of("left.notes.jsonl").empty());
+    CHECK(system_refusal("left.stream") == std::errc::file_exists);
+    CHECK(refusal([] { Recorder::to_file("left", "left", MONITOR_NOTES); }) == MONITOR_NO_NOTES);
+}
+
 int main(int, char **words)
 {
     if (words[1] == nullptr || chdir(words[1]) != 0)
         return 2;
     for (auto test : {test_a_recording, test_destruction, test_moves, test_strands, test_the_order_of_destruction,
-                      test_refusals, test_locks})
+                      test_refusals, test_locks, test_notes})
         test();
     return failures != 0;
 }

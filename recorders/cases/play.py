@@ -13,6 +13,7 @@ import sys
 import tempfile
 
 import judged
+import noted
 import reading
 import trials
 from players import Players, Stream, Wrong, see_text
@@ -21,6 +22,8 @@ from players import Players, Stream, Wrong, see_text
 MOST_SECONDS = 600
 # So many calls of a row are made before their bytes are looked at.
 AT_ONCE = 100
+# A call that begins so is given the path of a file.
+MAKES_FILE = ("file ", "noted ", "replaced ")
 
 
 def play(case, players, folder):
@@ -35,6 +38,8 @@ def play(case, players, folder):
                 numbers = range(first, min(first + AT_ONCE, call.times + 1))
                 turns = [call.numbered(number) for number in numbers]
                 left_out += make(players.of(player), words, stream, streams, turns)
+                if not left_out:
+                    see_notes(streams, turns)
         except Wrong as wrong:
             raise Wrong(f"{call.where}: {wrong}") from None
     for process in set(streams) - set(begun):
@@ -64,9 +69,12 @@ def owner_of(process, begun):
 def make(player, prefix, stream, streams, turns):
     """Has calls made, which are words, an answer and what is written; gives how many were left out."""
     wanted, left_out = {}, 0
-    for words, _, _ in turns:
-        player.tell(f"{words} {stream.word()}" if words.startswith("file ") else prefix + words)
-    for words, answer, written in turns:
+    for words, *_ in turns:
+        makes_file = words.startswith(MAKES_FILE)
+        if words.startswith("replaced "):
+            stream.begin_again()
+        player.tell(f"{words} {stream.word()}" if makes_file else prefix + words)
+    for words, answer, written, _ in turns:
         if player.has_answered(words, answer):
             for process, text in written.items():
                 wanted[process] = wanted.get(process, b"") + text
@@ -75,6 +83,16 @@ def make(player, prefix, stream, streams, turns):
     for process, each in streams.items():
         see_text(each.added(), wanted.get(process, b""))
     return left_out
+
+
+def see_notes(streams, turns):
+    """Sees that the calls have written these notes, and no others."""
+    wanted = {process: [] for process in streams}
+    for words, _, _, notes in turns:
+        for process, note in notes:
+            wanted[process].append((note, noted.call_in(words)))
+    for process, stream in streams.items():
+        noted.see_notes(process, stream.notes.added(), wanted[process])
 
 
 def judge(document, report, folder, paths):

@@ -91,10 +91,15 @@ class Players(contextlib.ExitStack):
 
 
 class Stream:
-    """A stream's file, of which each byte is read once, when it is there."""
+    """A stream's file, of which each byte is read once, when it is there, or that of its notes."""
 
-    def __init__(self, folder, process):
-        self.path, self.size = os.path.join(folder, f"{process}.stream"), 0
+    def __init__(self, folder, process, ending="stream"):
+        self.path, self.size = os.path.join(folder, f"{process}.{ending}"), 0
+        self.notes = None if ending != "stream" else Stream(folder, process, "notes.jsonl")
+
+    def begin_again(self):
+        """The file is a new one, or is to be replaced."""
+        self.size = self.notes.size = 0
 
     def added(self):
         """What has been added since the last time."""

@@ -15,17 +15,18 @@ class Call:
 
     def __init__(self, where, process, words, times):
         self.where, self.process, self.words, self.times = where, process, words, times
-        self.answer, self.lines = "recorded", []
+        self.answer, self.lines, self.notes = "recorded", [], []
 
     def numbered(self, number):
-        """The words, the answer and, by processes, the bytes of this turn, counted from 1."""
+        """The words, the answer and, by processes, the bytes of this turn, counted from 1, and its notes."""
         def put(text):
             return NUMBER.sub(lambda found: str(number).zfill(int(found[1] or 0)), text)
 
         written = {}
         for process, line in self.lines:
             written[process] = written.get(process, b"") + unquote_to_bytes(put(f"{line}\n"))
-        return put(self.words), put(self.answer), written
+        notes = [(process, unquote_to_bytes(put(note)).decode()) for process, note in self.notes]
+        return put(self.words), put(self.answer), written, notes
 
 
 class Case:
@@ -53,6 +54,8 @@ class Reader:
             self.times = int(rest)
         elif word.endswith(">"):
             self.last_call().lines.append([word[:-1] or self.last_call().process, rest])
+        elif word.endswith("!"):
+            self.last_call().notes.append([word[:-1] or self.last_call().process, rest])
         elif word == "gives":
             self.last_call().answer = f"recorded {rest}"
         elif word in ("refused", "failed"):
@@ -74,6 +77,8 @@ class Reader:
             self.cases[-1].document += rest
         elif self.last.endswith(">"):
             self.last_call().lines[-1][1] += rest
+        elif self.last.endswith("!"):
+            self.last_call().notes[-1][1] += rest
         else:
             self.last_call().words += f" {rest}"
 

@@ -11,6 +11,7 @@ import threading
 import time
 
 import judged
+import noted
 from players import Player, Stream, see, see_text
 
 sys.path.append(os.path.join(judged.TOP, "cases"))
@@ -18,6 +19,7 @@ import listening  # noqa: E402
 
 THREADS, TURNS = 6, 50
 STRANDS = 15
+CONTENDING, ENTRIES = 3, 40
 SEEN = 300
 BURST = 4000
 JOIN, END = b'{"process":"left"}\n', b'{"end":true}\n'
@@ -85,6 +87,59 @@ def with_strands(players, folder):
         judged.Plain([stream.path, *(strand.path for strand in strands)]).see(folder)
 
 
+def with_noted_threads(players, folder):
+    """threads whose events have notes"""
+    player, stream = players.of("left"), Stream(folder, "left")
+    player.ask(f"noted left {stream.word()}")
+    player.ask(f"threads {THREADS} {TURNS}")
+    player.ask("end")
+    see(stream.added().count(b"\n") == 4 * THREADS * TURNS + 2, "the lines of the stream aren't those without notes")
+    noted.see_all(stream.notes.added(), 4 * THREADS * TURNS)
+
+
+def for_a_lock(players, folder):
+    """strands that contend for a lock, and that have none"""
+    player = players.of("left")
+    for call, answer in (("locked", "no"), ("unlocked", "yes")):
+        stream = Stream(folder, "left")
+        player.ask(f"file left {stream.word()}")
+        player.tell(f"{call} {CONTENDING} {ENTRIES}")
+        if not player.has_answered(call, "recorded"):
+            return 1
+        player.ask("end")
+        names = [f"strand{number}" for number in range(CONTENDING)]
+        paths = [stream.path, *(os.path.join(folder, f"{name}.stream") for name in names)]
+        see_contention(names, paths, call == "locked")
+        if judged.has_program():
+            report = judged.report_of(folder, contended(names), paths)
+            see(f"\nboth possibly {answer}" in report, f"with the call {call} the report is\n{report}")
+        for path in paths:
+            os.unlink(path)
+
+
+def contended(names):
+    """The document that asks whether two of these are ever inside."""
+    processes = [{"name": "left", "vars": {}}, *({"name": name, "vars": {"x": 0}} for name in names)]
+    text = " + ".join(f"{name}.x" for name in names) + " > 1"
+    return json.dumps({"processes": processes, "predicates": [{"name": "both", "text": text}], "width": 65_536})
+
+
+def see_contention(names, paths, is_locked):
+    """Sees that each strand went inside as often as it was to, and that with a lock each of them has sent a message
+    whenever it went out, which another one has received at most once, as it went in."""
+    sent, received = set(), []
+    for name, path in zip(names, paths[1:]):
+        with open(path, encoding="utf-8") as file:
+            lines = [json.loads(line) for line in file][2:-2]
+        see([line["set"]["x"] for line in lines if "set" in line] == [1, 0] * ENTRIES, f"{name} isn't inside by turns")
+        sent |= {line["send"] for line in lines if "send" in line}
+        received += [line["recv"] for line in lines if "recv" in line]
+        see(not any(line.get("recv", "").startswith(f"{name}-") for line in lines), f"{name} receives what it has sent")
+    see(len(sent) == (len(names) * ENTRIES if is_locked else 0), f"{len(sent)} messages are sent")
+    see(len(received) == len(set(received)), "messages are received twice")
+    see(set(received) <= sent, "messages are received that were not sent")
+
+
 def killed_at_rest(players, folder):
     """a process that is killed when it has recorded"""
     stream = Stream(folder, "left")
@@ -108,6 +163,24 @@ def killed_at_work(players, folder):
     whole = text.rpartition(b"\n")[0] + b"\n"
     with open(stream.path, "wb") as file:
         file.write(whole + END)
+    see_plain(folder, stream.path)
+
+
+def killed_with_notes(players, folder):
+    """a process that is killed while its threads record with notes, and is mended"""
+    stream = Stream(folder, "left")
+    with Player(players.words) as player:
+        player.ask(f"noted left {stream.word()}")
+        sent = killed_flood(player)
+    see_flood(sent, stream.added())
+    mended = os.path.join(folder, "mended")
+    done = subprocess.run([sys.executable, os.path.join(noted.RECORDERS, "python", "monitor_mend.py"), "--out", mended,
+                           folder], stdout=subprocess.PIPE, stderr=subprocess.PIPE)
+    see(done.returncode == 0, f"it isn't mended: {done.stderr.decode()}")
+    stream = Stream(mended, "left")
+    text = stream.added()
+    see(text.startswith(JOIN) and text.endswith(END), f"the mended stream isn't whole: {text[-200:]}")
+    noted.see_all(stream.notes.added(), text.count(b"\n") - 2)
     see_plain(folder, stream.path)
 
 
@@ -328,6 +401,7 @@ def served_with_a_strand(players, folder):
         see(report.startswith(STRANDED_REPORT), f"the report is\n{report}and not\n{STRANDED_REPORT}")
 
 
-TRIALS = [with_threads, with_strands, killed_at_rest, killed_at_work, lines_as_they_are_recorded,
+TRIALS = [with_threads, with_strands, with_noted_threads, for_a_lock, killed_at_rest, killed_at_work,
+          killed_with_notes, lines_as_they_are_recorded,
           strand_over_a_connection, without_an_end_over_a_connection, killed_over_a_connection, gone, nobody_listens,
           listens_later, reads_late, served, served_with_a_strand]

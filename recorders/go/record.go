@@ -31,6 +31,9 @@
 //	}()
 //	<-done
 //	err = left.Join(worker) // AFTER the goroutine has been waited for
+//
+// Events have no names. With [Options] each has a note in left.notes.jsonl, of the line of the program that recorded it,
+// and of a text if one is given, as by left.Event(record.Set("inside", 1), record.Note("the lock is ours")).
 package record
 
 import (
@@ -38,11 +41,13 @@ import (
 	"errors"
 	"fmt"
 	"io"
+	"io/fs"
 	"math"
 	"net"
 	"os"
 	"path/filepath"
 	"reflect"
+	"runtime"
 	"strconv"
 	"strings"
 	"sync"
@@ -58,13 +63,25 @@ const (
 	ProcessLimit  = 16     // at most so many processes has a session: a process and its strands are as many at most
 	NameByteLimit = 32     // at most so many bytes has the name of a process or of a variable
 	IDByteLimit   = 64     // at most so many bytes has the id of a message, and at least one
+	NoteByteLimit = 1_024  // at most so many bytes has a note of its text, and of its place's file: the rest is cut
 )
 
 const (
 	patience  = 10 * time.Second
 	pause     = 50 * time.Millisecond
 	portLimit = 65534
+
+	ending, notesEnding = ".stream", ".notes.jsonl"
 )
+
+// Options say how a file is recorded to, as in record.Options{Notes: true}.ToFile("left", "left.stream").
+type Options struct {
+	// Replace records also to a file that is there already, which is lost then, with its notes.
+	Replace bool
+	// Notes gives each event a note, in a file beside: that of left.stream is left.notes.jsonl. The path has to end with
+	// .stream then. docs/RECORDING.md has the format.
+	Notes bool
+}
 
 // ErrNotRecorded is what each error of a call is, by errors.Is, that was refused and wrote nothing.
 var ErrNotRecorded = errors.New("not recorded")
@@ -100,6 +117,9 @@ var (
 	ErrNotEnded error = refusal("no strand that has ended: wait for it, and then join it")
 	// ErrPlace says that MONITOR_TO isn't set, or isn't a port that there is.
 	ErrPlace error = refusal("MONITOR_TO names no place: it names a folder, or a port from 1 to 65534 as :7411")
+	// ErrNotes says that there is no place for notes, as at a port, or that MONITOR_NOTES is neither 1 nor 0.
+	ErrNotes error = refusal("no place for notes, which go beside a file whose name ends with .stream and to no port; " +
+		"MONITOR_NOTES is 1 for notes, and else 0 or not set")
 )
 
 type refusal string
@@ -113,12 +133,16 @@ type Value interface {
 	~bool | ~int | ~int8 | ~int16 | ~int32 | ~int64 | ~uint | ~uint8 | ~uint16 | ~uint32 | ~uint64 | ~uintptr
 }
 
-// A Setting is a variable and the value that it has from now on.
+// A Setting is a variable and the value that it has from now on, or the text of the event's note.
 type Setting struct {
-	name  string
-	value int64
-	fault error
+	name   string
+	value  int64
+	fault  error
+	isNote bool // the name is the text then
 }
+
+// Note stands among the settings of an event, and is the text of its note, if the events have notes.
+func Note(text string) Setting { return Setting{name: text, isNote: true} }
 
 // Set is a variable and the value that it has from now on. One over the greatest number of 64 bits with a sign is
 // refused when it is recorded.
@@ -146,6 +170,7 @@ type Recorder struct {
 
 	mutex  sync.Mutex
 	out    io.WriteCloser
+	notes  io.WriteCloser // nil if the events have none
 	ended  bool
 	broken bool
 	events int
@@ -156,7 +181,10 @@ type Recorder struct {
 }
 
 // ToFile records to a new file. One that is there already is fs.ErrExist.
-func ToFile(process, path string) (*Recorder, error) {
+func ToFile(process, path string) (*Recorder, error) { return Options{}.ToFile(process, path) }
+
+// ToFile records to a new file, with these options.
+func (o Options) ToFile(process, path string) (*Recorder, error) {
 	if !isName(process) {
 		return nil, refused(process, ErrProcessName)
 	}
@@ -164,17 +192,88 @@ func ToFile(process, path string) (*Recorder, error) {
 	if err != nil {
 		return nil, err
 	}
-	file, err := newFile(path)
+	if o.Notes && !strings.HasSuffix(first, ending) {
+		return nil, refused(path, ErrNotes)
+	}
+	out, err := newFiles(path, o)
 	if err != nil {
 		return nil, err
 	}
-	return over(process, file, func(name string) (io.WriteCloser, error) {
-		return newFile(filepath.Join(filepath.Dir(first), name+".stream"))
+	return over(process, out, func(name string) (files, error) {
+		beside := filepath.Join(filepath.Dir(first), name+ending)
+		if o.Replace && isSameFile(beside, first) {
+			return files{}, already(fs.ErrExist)
+		}
+		return newFiles(beside, o)
 	})
 }
 
-func newFile(path string) (io.WriteCloser, error) {
-	return os.OpenFile(path, os.O_WRONLY|os.O_CREATE|os.O_EXCL, 0o666)
+// Files are that of a stream and that of its notes, which is nil if it has none.
+type files struct{ out, notes io.WriteCloser }
+
+func (f files) close() error {
+	err := f.out.Close()
+	if f.notes != nil {
+		if closed := f.notes.Close(); err == nil {
+			err = closed
+		}
+	}
+	return err
+}
+
+// newFiles opens the files of a recording. What it replaces has no notes any more.
+func newFiles(path string, o Options) (files, error) {
+	out, err := newFile(path, o)
+	if err != nil {
+		return files{}, err
+	}
+	made := files{out: out}
+	beside := strings.TrimSuffix(path, ending) + notesEnding
+	switch {
+	case o.Notes:
+		made.notes, err = newFile(beside, o)
+	case o.Replace && strings.HasSuffix(path, ending):
+		if err = os.Remove(beside); errors.Is(err, fs.ErrNotExist) {
+			err = nil
+		}
+	}
+	if err != nil {
+		out.Close()
+		if !o.Replace {
+			os.Remove(path)
+		}
+		return files{}, err
+	}
+	return made, nil
+}
+
+func newFile(path string, o Options) (io.WriteCloser, error) {
+	flags := os.O_WRONLY | os.O_CREATE | os.O_EXCL
+	if o.Replace {
+		flags = os.O_WRONLY | os.O_CREATE | os.O_TRUNC
+	}
+	file, err := os.OpenFile(path, flags, 0o666)
+	if errors.Is(err, fs.ErrExist) {
+		return nil, already(err)
+	}
+	if err != nil {
+		return nil, err // and not file, which is no nil interface
+	}
+	return file, nil
+}
+
+func already(err error) error {
+	return fmt.Errorf("%w: a recording isn't written over: record to another file or folder, remove it, or say "+
+		"record.Options{Replace: true}", err)
+}
+
+func isSameFile(one, other string) bool {
+	first, err := os.Stat(one)
+	if err != nil {
+		return false
+	}
+	second, err := os.Stat(other)
+	return err == nil && os.SameFile(first, second)
 }
 
 // ToPort records to monitor serve on a port of this machine, 1 to 65,534. If nobody listens there yet, it is tried
@@ -188,15 +287,22 @@ func ToPort(ctx context.Context, process string, port int) (*Recorder, error) {
 	if err != nil {
 		return nil, err
 	}
-	return over(process, connection, func(string) (io.WriteCloser, error) {
-		return connectionTo(context.Background(), port)
+	return over(process, files{out: connection}, func(string) (files, error) {
+		connection, err := connectionTo(context.Background(), port)
+		return files{out: connection}, err
 	})
 }
 
 // FromEnvironment records to where MONITOR_TO in the environment says, so that no code changes between a test and a
 // live session: to a new file NAME.stream in a folder of this name, which is made if there is none; or to monitor serve
-// on a port of this machine, of :7411 or localhost:7411.
+// on a port of this machine, of :7411 or localhost:7411. With MONITOR_NOTES=1 each event gets a note beside the file; a
+// port has no place for notes, so the two together are ErrNotes.
 func FromEnvironment(ctx context.Context, process string) (*Recorder, error) {
+	return Options{}.FromEnvironment(ctx, process)
+}
+
+// FromEnvironment records to where MONITOR_TO says, with these options, and with notes if MONITOR_NOTES says so.
+func (o Options) FromEnvironment(ctx context.Context, process string) (*Recorder, error) {
 	if !isName(process) {
 		return nil, refused(process, ErrProcessName)
 	}
@@ -204,16 +310,22 @@ func FromEnvironment(ctx context.Context, process string) (*Recorder, error) {
 	host, digits, isPort := strings.Cut(place, ":")
 	port, err := strconv.ParseUint(digits, 10, 16)
 	isPort = isPort && (host == "" || host == "localhost" || host == "127.0.0.1") && isDecimal(digits)
+	wanted := os.Getenv("MONITOR_NOTES")
+	o.Notes = o.Notes || wanted == "1"
 	switch {
 	case place == "" || isPort && (err != nil || port < 1 || port > portLimit):
 		return nil, refused(place, ErrPlace)
+	case wanted != "" && wanted != "0" && wanted != "1":
+		return nil, refused(wanted, ErrNotes)
+	case isPort && o.Notes:
+		return nil, refused(place, ErrNotes)
 	case isPort:
 		return ToPort(ctx, process, int(port))
 	}
 	if err := os.MkdirAll(place, 0o777); err != nil {
 		return nil, err
 	}
-	return ToFile(process, filepath.Join(place, process+".stream"))
+	return o.ToFile(process, filepath.Join(place, process+ending))
 }
 
 func isDecimal(text string) bool {
@@ -234,12 +346,13 @@ func New(process string, out io.WriteCloser) (*Recorder, error) {
 	return r, nil
 }
 
-func over(process string, out io.WriteCloser, open func(string) (io.WriteCloser, error)) (*Recorder, error) {
-	r, err := New(process, out)
+func over(process string, made files, open func(string) (files, error)) (*Recorder, error) {
+	r, err := New(process, made.out)
 	if err != nil {
-		out.Close()
+		made.close()
 		return nil, err
 	}
+	r.notes = made.notes
 	r.family.open = open
 	return r, nil
 }
@@ -389,7 +502,7 @@ func (r *Recorder) end(last func() error) error {
 		return err
 	}
 	r.ended = true
-	return r.out.Close()
+	return files{r.out, r.notes}.close()
 }
 
 // sendLast sends the message by which a strand has ended; the lock is held.
@@ -417,13 +530,13 @@ func (r *Recorder) closeOut() error {
 		return nil
 	}
 	r.ended = true
-	return r.out.Close()
+	return files{r.out, r.notes}.close()
 }
 
 // A family is a process that is recorded and its strands.
 type family struct {
 	mutex   sync.Mutex
-	open    func(name string) (io.WriteCloser, error) // opens the stream of a strand, if there is a place for it
+	open    func(name string) (files, error) // opens the files of a strand, if there is a place for them
 	names   map[string]bool
 	strands []*Recorder
 	ended   bool
@@ -621,7 +734,11 @@ func (r *Recorder) put(field, id string, settings []Setting) error {
 	case r.ids[id]:
 		return refused(id, ErrIDTwice)
 	}
+	text, settings := withoutNotes(settings)
 	if err := r.check(settings); err != nil {
+		return err
+	}
+	if err := r.note(text); err != nil {
 		return err
 	}
 	if err := r.write(lineOf(field, id, settings)); err != nil {
@@ -658,11 +775,87 @@ func (r *Recorder) check(settings []Setting) error {
 	return nil
 }
 
-// write hands the line to the system. If that fails, or panics, nothing more is written later.
-func (r *Recorder) write(line string) error {
+// withoutNotes is the text of the notes among the settings, the last one if there are several, and the others.
+func withoutNotes(settings []Setting) (text string, others []Setting) {
+	for place, setting := range settings {
+		if setting.isNote && others == nil {
+			others = append(make([]Setting, 0, len(settings)), settings[:place]...)
+		}
+		if setting.isNote {
+			text = setting.name
+		} else if others != nil {
+			others = append(others, setting)
+		}
+	}
+	if others == nil {
+		return "", settings
+	}
+	return text, others
+}
+
+// note writes the note of the event whose line is written next, if the events have notes: so each event that a stream
+// has has its note.
+func (r *Recorder) note(text string) error {
+	if r.notes == nil {
+		return nil
+	}
+	now := time.Now().UnixMicro()
+	return r.writeTo(r.notes, fmt.Sprintf(`{"process": "%s", "event": %d, "text": %s, "place": %s, "clock": %d.%06d}`+"\n",
+		r.process, r.events+1, escaped(bounded(text)), escaped(placeOfCaller()), now/1e6, now%1e6))
+}
+
+var _, ownFile, _, _ = runtime.Caller(0)
+
+// placeOfCaller is FILE:LINE of the code that has called into this file, or no text.
+func placeOfCaller() string {
+	var callers [64]uintptr
+	frames := runtime.CallersFrames(callers[:runtime.Callers(2, callers[:])])
+	for {
+		frame, more := frames.Next()
+		// A call that is deferred comes from the runtime if there is a panic.
+		if frame.File != ownFile && !strings.HasPrefix(frame.Function, "runtime.") {
+			return bounded(frame.File) + ":" + strconv.Itoa(frame.Line)
+		}
+		if !more {
+			return ""
+		}
+	}
+}
+
+// bounded is the text with U+FFFD for each byte that is no UTF-8, and cut if it is too long.
+func bounded(text string) string {
+	var kept strings.Builder
+	for _, c := range text {
+		if kept.Len()+utf8.RuneLen(c) > NoteByteLimit {
+			break
+		}
+		kept.WriteRune(c)
+	}
+	return kept.String()
+}
+
+// escaped is the text as JSON has it between quotes. Besides what JSON escapes these are: a terminal takes some for
+// commands, and what reads lines others for their ends.
+func escaped(text string) string {
+	var line strings.Builder
+	for _, c := range quoted(text) {
+		if c >= 0x7f && c <= 0x9f || c == '\u2028' || c == '\u2029' {
+			fmt.Fprintf(&line, `\u%04x`, c)
+		} else {
+			line.WriteRune(c)
+		}
+	}
+	return line.String()
+}
+
+// write hands the line to the system.
+func (r *Recorder) write(line string) error { return r.writeTo(r.out, line) }
+
+// writeTo hands a line to the system. If that fails, or panics, nothing more is written later.
+func (r *Recorder) writeTo(out io.Writer, line string) error {
 	// With the limits above no line has over 1,400 bytes, and no stream over 14,000,000: monitor takes more.
 	r.broken = true
-	written, err := r.out.Write([]byte(line))
+	written, err := out.Write([]byte(line))
 	if err == nil && written < len(line) {
 		err = io.ErrShortWrite
 	}

@@ -3,6 +3,7 @@ package record
 import (
 	"bytes"
 	"context"
+	"encoding/json"
 	"errors"
 	"fmt"
 	"io"
@@ -11,6 +12,8 @@ import (
 	"net"
 	"os"
 	"path/filepath"
+	"reflect"
+	"runtime"
 	"strconv"
 	"strings"
 	"syscall"
@@ -64,7 +67,7 @@ func seeText(t *testing.T, out *memory, wanted string) {
 
 func TestEveryReasonIsNotRecorded(t *testing.T) {
 	reasons := []error{ErrProcessName, ErrVariableName, ErrValue, ErrVariables, ErrEvents, ErrID, ErrIDTwice, ErrEnded,
-		ErrBroken, ErrNameTwice, ErrProcesses, ErrNoPlace, ErrNotEnded}
+		ErrBroken, ErrNameTwice, ErrProcesses, ErrNoPlace, ErrNotEnded, ErrPlace, ErrNotes}
 	for place, reason := range reasons {
 		see(t, refused("x", reason), ErrNotRecorded)
 		for other := range reasons {
@@ -214,6 +217,183 @@ func TestAPlaceThatTheEnvironmentNames(t *testing.T) {
 	}
 	_, err = at(folder, "and")
 	see(t, err, ErrProcessName)
+}
+
+// noteOf is a note, without its clock, and the line of this file that is its place.
+type noteOf struct {
+	process string
+	event   int
+	text    string
+	line    string
+}
+
+// notes reads the notes of a process.
+func (p process) notes(name string) (notes []noteOf) {
+	p.t.Helper()
+	text, err := os.ReadFile(filepath.Join(p.folder, name+".notes.jsonl"))
+	see(p.t, err, nil)
+	_, own, _, _ := runtime.Caller(0)
+	source, err := os.ReadFile(own)
+	see(p.t, err, nil)
+	for _, line := range strings.SplitAfter(string(text), "\n") {
+		if line == "" {
+			break
+		}
+		note := struct {
+			Process string
+			Event   int
+			Text    string
+			Place   string
+			Clock   float64
+		}{}
+		see(p.t, json.Unmarshal([]byte(line), &note), nil)
+		number, err := strconv.Atoi(strings.TrimPrefix(note.Place, own+":"))
+		see(p.t, err, nil)
+		there := strings.TrimSpace(strings.Split(string(source), "\n")[number-1])
+		notes = append(notes, noteOf{note.Process, note.Event, note.Text, there})
+	}
+	return notes
+}
+
+func (p process) seeNotes(name string, wanted ...noteOf) {
+	p.t.Helper()
+	if found := p.notes(name); !reflect.DeepEqual(found, wanted) {
+		p.t.Errorf("the notes of %s are\n%v\nand not\n%v", name, found, wanted)
+	}
+}
+
+func openedWithNotes(t *testing.T) process {
+	t.Helper()
+	folder := t.TempDir()
+	r, err := Options{Notes: true}.ToFile("left", filepath.Join(folder, "left.stream"))
+	see(t, err, nil)
+	return process{r, t, folder}
+}
+
+func TestNotes(t *testing.T) {
+	p := openedWithNotes(t)
+	see(t, p.Event(Note("first"), Set("x", 1), Note("said"), Set("y", 2)), nil)
+	worker, err := p.Strand("worker")
+	see(t, err, nil)
+	func() {
+		defer func() { see(t, fmt.Errorf("%w", recover().(error)), io.EOF) }()
+		defer worker.Close()
+		panic(io.EOF) // it is left here
+	}()
+	see(t, p.Join(worker, Note("a\xffb\xc3")), nil)
+	see(t, p.End(), nil)
+	p.seeStream("left", `{"set":{"x":1,"y":2}}`, `{"send":"left-1"}`, `{"recv":"worker-1"}`, `{"end":true}`)
+	p.seeNotes("left", noteOf{"left", 1, "said", `see(t, p.Event(Note("first"), Set("x", 1), Note("said"), Set("y", 2)), nil)`},
+		noteOf{"left", 2, "", `worker, err := p.Strand("worker")`},
+		noteOf{"left", 3, "a\uFFFDb\uFFFD", `see(t, p.Join(worker, Note("a\xffb\xc3")), nil)`})
+	p.seeNotes("worker", noteOf{"worker", 1, "", `worker, err := p.Strand("worker")`},
+		noteOf{"worker", 2, "", `panic(io.EOF) // it is left here`})
+}
+
+func TestNotesOfWhatGoroutinesShare(t *testing.T) {
+	p := openedWithNotes(t)
+	a, b := p.strand("a"), p.strand("b")
+	var mutex Mutex
+	see(t, mutex.Lock(a), nil)
+	see(t, mutex.Unlock(a), nil)
+	see(t, mutex.Lock(b), nil)
+	carried, err := Carry(b, 7, Note("on its way"))
+	see(t, err, nil)
+	_, err = carried.Take(a, Note("there"))
+	see(t, err, nil)
+	see(t, p.End(), nil)
+	if found := p.notes("a"); len(found) != 3 || found[1].line != "see(t, mutex.Unlock(a), nil)" ||
+		found[2] != (noteOf{"a", 3, "there", `_, err = carried.Take(a, Note("there"))`}) {
+		t.Errorf("the notes are %v", found)
+	}
+	if found := p.notes("b"); len(found) != 3 || found[1].line != "see(t, mutex.Lock(b), nil)" ||
+		found[2] != (noteOf{"b", 3, "on its way", `carried, err := Carry(b, 7, Note("on its way"))`}) {
+		t.Errorf("the notes are %v", found)
+	}
+}
+
+func TestWhereThereIsNoPlaceForNotes(t *testing.T) {
+	folder := t.TempDir()
+	for _, name := range []string{"left", "left.stream.txt", "left.notes.jsonl"} {
+		_, err := Options{Notes: true}.ToFile("left", filepath.Join(folder, name))
+		see(t, err, ErrNotes)
+	}
+	t.Setenv("MONITOR_NOTES", "1")
+	t.Setenv("MONITOR_TO", ":7411")
+	_, err := FromEnvironment(context.Background(), "left")
+	see(t, err, ErrNotes)
+	t.Setenv("MONITOR_TO", folder)
+	r, err := FromEnvironment(context.Background(), "left")
+	see(t, err, nil)
+	see(t, r.End(), nil)
+	for _, wanted := range []string{"0", ""} {
+		t.Setenv("MONITOR_NOTES", wanted)
+		r, err := FromEnvironment(context.Background(), "without"+wanted)
+		see(t, err, nil)
+		see(t, r.End(), nil)
+	}
+	for _, place := range []string{folder, ":7411"} {
+		t.Setenv("MONITOR_NOTES", "yes")
+		t.Setenv("MONITOR_TO", place)
+		_, err = FromEnvironment(context.Background(), "other")
+		see(t, err, ErrNotes)
+	}
+	seeNames(t, folder, "left.notes.jsonl", "left.stream", "without.stream", "without0.stream")
+}
+
+func seeNames(t *testing.T, folder string, wanted ...string) {
+	t.Helper()
+	entries, err := os.ReadDir(folder)
+	see(t, err, nil)
+	var names []string
+	for _, entry := range entries {
+		names = append(names, entry.Name())
+	}
+	if !reflect.DeepEqual(names, wanted) {
+		t.Errorf("there are %v, and not %v", names, wanted)
+	}
+}
+
+func TestFilesThatAreReplaced(t *testing.T) {
+	folder := t.TempDir()
+	path, notes := filepath.Join(folder, "left.stream"), filepath.Join(folder, "left.notes.jsonl")
+	see(t, os.WriteFile(notes, []byte("mine"), 0o666), nil)
+	_, err := Options{Notes: true}.ToFile("left", path)
+	see(t, err, fs.ErrExist)
+	seeNames(t, folder, "left.notes.jsonl")
+	for turn := 0; turn < 2; turn++ {
+		r, err := Options{Notes: true, Replace: true}.ToFile("left", path)
+		see(t, err, nil)
+		strand, err := r.Strand("worker")
+		see(t, err, nil)
+		see(t, strand.End(), nil)
+		_, err = r.Strand("left")
+		see(t, err, ErrNameTwice)
+		see(t, r.End(), nil)
+		seeNames(t, folder, "left.notes.jsonl", "left.stream", "worker.notes.jsonl", "worker.stream")
+	}
+	t.Setenv("MONITOR_TO", folder)
+	r, err := Options{Replace: true}.FromEnvironment(context.Background(), "left")
+	see(t, err, nil)
+	see(t, r.End(), nil)
+	seeNames(t, folder, "left.stream", "worker.notes.jsonl", "worker.stream")
+	// A strand doesn't replace the file of its process, by whatever name.
+	other, err := Options{Replace: true}.ToFile("other", path)
+	see(t, err, nil)
+	_, err = other.Strand("left")
+	see(t, err, fs.ErrExist)
+	see(t, other.End(), nil)
+}
+
+func TestAfterANoteThatCouldNotBeWrittenNothingIs(t *testing.T) {
+	folder := t.TempDir()
+	see(t, os.Symlink("/dev/full", filepath.Join(folder, "left.notes.jsonl")), nil)
+	r, err := Options{Notes: true, Replace: true}.ToFile("left", filepath.Join(folder, "left.stream"))
+	see(t, err, nil)
+	see(t, r.Event(), syscall.ENOSPC)
+	see(t, r.Event(), ErrBroken)
+	see(t, r.Close(), nil)
+	process{r, t, folder}.seeStream("left")
 }
 
 func TestAContextCarriesARecorder(t *testing.T) {

@@ -1,3 +1,4 @@
+import static monitor.Recorder.note;
 import static monitor.Recorder.set;
 
 import java.io.BufferedReader;
@@ -19,14 +20,18 @@ import java.util.concurrent.ExecutorService;
 import java.util.concurrent.Executors;
 import java.util.concurrent.Future;
 import java.util.function.IntConsumer;
+import java.util.stream.Stream;
 import monitor.Recorder;
+import monitor.Recorder.Detail;
 import monitor.Recorder.NotRecordedException;
-import monitor.Recorder.Setting;
+import monitor.Recorder.Option;
 
 /** Makes the calls that it is told on its standard input, with the recorder for Java: see recorders/cases/README.md. */
 final class Player {
     private final Map<String, Recorder> recorders = new HashMap<>();
     private Recorder recorder;
+    /** The note of the call, if it has one. */
+    private List<Detail> said = List.of();
     private int total;
 
     public static void main(String[] arguments) throws IOException {
@@ -59,7 +64,12 @@ final class Player {
     /** Makes a call, and gives the id that it gives, or null. */
     private String make(String call, List<String> words) throws IOException {
         switch (call) {
-            case "file" -> begin(words.get(0), Recorder.toFile(textOf(words.get(0)), Path.of(textOf(words.get(1)))));
+            case "file" -> openFile(words);
+            case "noted" -> openFile(words, Option.NOTES);
+            case "replaced" -> openFile(words, Option.REPLACE);
+            case "note" -> {
+                return makeNoted(words.get(0), words.get(1), words.subList(2, words.size()));
+            }
             case "port" -> begin(words.get(0), Recorder.toPort(textOf(words.get(0)), Integer.parseInt(words.get(1)),
                     Duration.ofMillis((long) (Double.parseDouble(words.get(2)) * 1000))));
             case "strand" -> recorders.put(words.get(0), recorder.strand(textOf(words.get(0))));
@@ -81,10 +91,24 @@ final class Player {
             case "close" -> close();
             case "threads" -> run(words.get(0), thread -> takeTurns(thread, Integer.parseInt(words.get(1))));
             case "flood" -> run(words.get(0), thread -> sendAll());
-            case "send-text", "lock", "unlock", "put", "take" -> throw new UnsupportedOperationException(call);
+            case "send-text", "locked", "unlocked", "lock", "unlock", "put", "take" -> throw new UnsupportedOperationException(call);
             default -> throw new IllegalStateException("no call " + call);
         }
         return null;
+    }
+
+    private void openFile(List<String> words, Option... options) throws IOException {
+        begin(words.get(0), Recorder.toFile(textOf(words.get(0)), Path.of(textOf(words.get(1))), options));
+    }
+
+    /** Makes the call with a text for its note. */
+    private String makeNoted(String text, String call, List<String> words) throws IOException {
+        said = List.of(note(textOf(text)));
+        try {
+            return make(call, words);
+        } finally {
+            said = List.of();
+        }
     }
 
     private void begin(String process, Recorder made) {
@@ -130,14 +154,14 @@ final class Player {
         return word.equals("%") ? "" : URLDecoder.decode(word.replace("+", "%2B"), StandardCharsets.UTF_8);
     }
 
-    private static Setting[] settingsOf(List<String> words) {
-        return words.stream().map(word -> {
+    private Detail[] settingsOf(List<String> words) {
+        return Stream.concat(said.stream(), words.stream().map(word -> {
             int place = word.lastIndexOf('=');
             String name = textOf(word.substring(0, place));
             String value = word.substring(place + 1);
             boolean isTruth = value.equals("true") || value.equals("false");
             return isTruth ? set(name, Boolean.parseBoolean(value)) : set(name, Long.parseLong(value));
-        }).toArray(Setting[]::new);
+        })).toArray(Detail[]::new);
     }
 
     private void takeTurns(int thread, int turns) {

@@ -1,3 +1,4 @@
+import static monitor.Recorder.note;
 import static monitor.Recorder.set;
 
 import java.io.BufferedOutputStream;
@@ -15,10 +16,14 @@ import java.nio.file.FileAlreadyExistsException;
 import java.nio.file.Files;
 import java.nio.file.Path;
 import java.time.Duration;
+import java.util.ArrayList;
+import java.util.List;
 import java.util.concurrent.Callable;
 import java.util.concurrent.locks.LockSupport;
+import java.util.stream.Stream;
 import monitor.Recorder;
 import monitor.Recorder.NotRecordedException;
+import monitor.Recorder.Option;
 import monitor.Recorder.Reason;
 
 /** Tests of monitor.Recorder that the shared cases can't say, in the folder that the argument names: see test.sh. */
@@ -31,6 +36,10 @@ final class RecorderTest {
     }
 
     public static void main(String[] arguments) throws Exception {
+        if (arguments[0].equals("environment")) {
+            recordByTheEnvironment();
+            return;
+        }
         Path folder = Path.of(arguments[0]);
         textsThatAreNotUnicode();
         namesThatAreMissingOrStandTwice();
@@ -46,6 +55,10 @@ final class RecorderTest {
         strandsAreClosedWithTheirProcess(folder);
         aProcessThatEndsWhileItsStrandsRecord(folder);
         strandsThatAreRefused(folder);
+        notes(folder.resolve("notes"));
+        whereThereIsNoPlaceForNotes(folder.resolve("no-place"));
+        filesThatAreReplaced(folder.resolve("replaced"));
+        afterANoteThatCouldNotBeWrittenNothingIs(folder.resolve("full"));
         System.out.println("java: " + wrong + " wrong");
         System.exit(wrong == 0 ? 0 : 1);
     }
@@ -307,6 +320,113 @@ final class RecorderTest {
         left.strand("worker").end();
         left.end();
         see(textOf(mine, "left"), JOIN + "{\"send\":\"left-1\"}\n" + END);
+    }
+
+    /** The notes of a process, without their clocks, and each place as a line of this file, counted from the first. */
+    private static List<String> notesIn(Path folder, String name, int first) throws IOException {
+        List<String> notes = new ArrayList<>();
+        for (String line : Files.readAllLines(folder.resolve(name + ".notes.jsonl"))) {
+            String[] parts = line.split(", \"clock\": ");
+            see(parts[1].matches("[0-9]{10}\\.[0-9]{6}\\}"), true);
+            int place = parts[0].lastIndexOf(':');
+            int number = Integer.parseInt(parts[0].substring(place + 1, parts[0].length() - 1)) - first;
+            notes.add(parts[0].substring(0, place + 1) + number);
+        }
+        return notes;
+    }
+
+    private static String noteOf(String process, int event, String text, int line) {
+        return String.format("{\"process\": \"%s\", \"event\": %d, \"text\": \"%s\", \"place\": \"RecorderTest.java:%d",
+                process, event, text, line);
+    }
+
+    private static void notes(Path folder) throws IOException {
+        Path path = Files.createDirectory(folder).resolve("left.stream");
+        int first = new Throwable().getStackTrace()[0].getLineNumber();
+        try (Recorder left = Recorder.toFile("left", path, Option.NOTES)) {
+            left.event(note("first"), set("x", 1), note("said \ud800"), set("y", 2));
+            Recorder worker = left.strand("worker");
+            try (worker) {
+                Stream.of(1).forEach(value -> worker.event(set("x", value)));
+            }
+            left.join(worker, note("joined"));
+            left.end();
+        }
+        see(Files.readString(path),
+                JOIN + "{\"set\":{\"x\":1,\"y\":2}}\n{\"send\":\"left-1\"}\n{\"recv\":\"worker-1\"}\n" + END);
+        see(notesIn(folder, "left", first), List.of(noteOf("left", 1, "said \ufffd", 2), noteOf("left", 2, "", 3),
+                noteOf("left", 3, "joined", 7)));
+        List<String> worker = notesIn(folder, "worker", first);
+        see(worker.subList(0, 2), List.of(noteOf("worker", 1, "", 3), noteOf("worker", 2, "", 5)));
+        see(worker.size(), 3); // of which the last one is where the block of try begins or ends
+    }
+
+    private static void recordByTheEnvironment() throws IOException {
+        try (Recorder recorder = Recorder.fromEnvironment("left", Option.REPLACE)) {
+            recorder.event();
+            recorder.end();
+        } catch (NotRecordedException error) {
+            System.out.print(error.reason());
+        }
+    }
+
+    /** What a program says that records by this environment. */
+    private static String saidBy(String place, String notes) throws IOException {
+        ProcessBuilder builder = new ProcessBuilder(Path.of(System.getProperty("java.home"), "bin", "java").toString(),
+                "-cp", System.getProperty("java.class.path"), "RecorderTest", "environment");
+        builder.environment().put("MONITOR_TO", place);
+        builder.environment().put("MONITOR_NOTES", notes);
+        Process program = builder.redirectError(ProcessBuilder.Redirect.DISCARD).start();
+        return new String(program.getInputStream().readAllBytes(), StandardCharsets.UTF_8);
+    }
+
+    private static List<String> namesIn(Path folder) throws IOException {
+        try (Stream<Path> paths = Files.list(folder)) {
+            return paths.map(path -> path.getFileName().toString()).sorted().toList();
+        }
+    }
+
+    private static void whereThereIsNoPlaceForNotes(Path folder) throws IOException {
+        Files.createDirectory(folder);
+        for (String name : new String[] {"left", "left.stream.txt"}) {
+            seeThrown(NotRecordedException.class, () -> Recorder.toFile("left", folder.resolve(name), Option.NOTES));
+        }
+        seeThrown(NotRecordedException.class, () -> Recorder.toPlace("left", ":7411", Option.NOTES));
+        see(namesIn(folder), List.of());
+        see(saidBy(folder.toString(), "1"), "");
+        see(namesIn(folder), List.of("left.notes.jsonl", "left.stream"));
+        see(saidBy(folder.toString(), "0"), "");
+        see(namesIn(folder), List.of("left.stream"));
+        see(saidBy(folder.toString(), "yes"), "NOTES");
+        see(saidBy(":7411", "1"), "NOTES");
+    }
+
+    private static void filesThatAreReplaced(Path folder) throws IOException {
+        Path path = Files.createDirectory(folder).resolve("left.stream");
+        Files.createFile(folder.resolve("left.notes.jsonl"));
+        seeThrown(FileAlreadyExistsException.class, () -> Recorder.toFile("left", path, Option.NOTES));
+        see(namesIn(folder), List.of("left.notes.jsonl"));
+        for (int turn = 0; turn < 2; turn++) {
+            Recorder left = Recorder.toFile("left", path, Option.NOTES, Option.REPLACE);
+            left.strand("worker").end();
+            left.end();
+        }
+        see(Files.readString(path), JOIN + "{\"send\":\"left-1\"}\n" + END);
+        Recorder.toFile("left", path, Option.REPLACE, Option.REPLACE).end();
+        see(namesIn(folder), List.of("left.stream", "worker.notes.jsonl", "worker.stream"));
+        Recorder other = Recorder.toFile("other", path, Option.REPLACE);
+        seeThrown(FileAlreadyExistsException.class, () -> other.strand("left"));
+        other.end();
+    }
+
+    private static void afterANoteThatCouldNotBeWrittenNothingIs(Path folder) throws IOException {
+        Path path = Files.createDirectory(folder).resolve("left.stream");
+        Files.createSymbolicLink(folder.resolve("left.notes.jsonl"), Path.of("/dev/full"));
+        try (Recorder left = Recorder.toFile("left", path, Option.NOTES, Option.REPLACE)) {
+            seeThrown(UncheckedIOException.class, () -> left.send());
+            seeRefused(Reason.BROKEN, left::event);
+        }
+        see(Files.readString(path), JOIN);
     }
 
     private static Recorder strandOf(Recorder recorder, String name) {

@@ -29,6 +29,9 @@
  *       worker.event({ busy: 1 }); // `Recorder.current()` is `worker` here, and in what is called from here
  *     });
  *
+ * Events have no names. With `{ notes: true }` each has a note in left.notes.jsonl, of the line of the program that
+ * recorded it, and of a text if one is given, as by `recorder.event({ inside: 1 }, { note: "the lock is ours" })`.
+ *
  * It needs Node 18 or later. Its types stand in monitor_recorder.d.cts.
  */
 const { AsyncLocalStorage } = require("node:async_hooks");
@@ -43,6 +46,11 @@ const VARIABLE_LIMIT = 16;
 const PROCESS_LIMIT = 16;
 const NAME_BYTE_LIMIT = 32;
 const ID_BYTE_LIMIT = 64;
+const NOTE_BYTE_LIMIT = 1_024;
+const [ENDING, NOTES_ENDING] = [".stream", ".notes.jsonl"];
+// Besides what JSON escapes these are: a terminal takes some for commands, and what reads lines others for their ends.
+const ESCAPED = /[\x7f-\x9f\u2028\u2029]/g;
+const FRAMES = 50; // so many calls back the caller is looked for
 const LEAST_VALUE = -(2n ** 63n);
 const GREATEST_VALUE = 2n ** 63n - 1n;
 const NAME = /^[A-Za-z_][A-Za-z0-9_]*$/;
@@ -70,8 +78,10 @@ class NotRecorded extends Error {
 class Recorder {
   #process;
   #out;
+  #notes; // where the notes of the events are written, if they have some
   #family;
   #isStrand = false;
+  #begunAt; // the place where a strand was begun, if events have notes
   #last; // the id of the message by which a strand has ended
   #state = OPEN;
   #events = 0;
@@ -87,12 +97,20 @@ class Recorder {
     this.#write(`{"process":"${process}"}`);
   }
 
-  /** Records to a new file. One that is there already is an error with the code EEXIST. */
-  static toFile(process, file) {
+  /**
+   * Records to a new file. One that is there already is an error with the code EEXIST; with `replace` it is lost, with
+   * its notes. With `notes` each event gets a note, in a file beside: that of `left.stream` is `left.notes.jsonl`. The
+   * path has to end with `.stream` then. docs/RECORDING.md has the format.
+   */
+  static toFile(process, file, options = {}) {
     checkedName("process", process);
     const first = path.resolve(file instanceof URL ? fileURLToPath(file) : String(file)); // the folder may change
-    const opened = (name) => new Descriptor(fs.openSync(path.join(path.dirname(first), `${name}.stream`), "wx"));
-    return Recorder.#over(process, new Descriptor(fs.openSync(file, "wx")), opened);
+    if (options.notes && !first.endsWith(ENDING)) {
+      const advice = `notes of left${ENDING} are in left${NOTES_ENDING}`;
+      throw new NotRecorded("notes", `${JSON.stringify(first)} doesn't end with ${ENDING}: ${advice}`);
+    }
+    const opened = (name) => openedFiles(besideOf(first, name, options), options);
+    return Recorder.#over(process, openedFiles(first, options), opened);
   }
 
   /**
@@ -102,35 +120,44 @@ class Recorder {
    */
   static async toPort(process, port, { seconds = PATIENCE_SECONDS } = {}) {
     checkedName("process", process);
-    return Recorder.#over(process, await Connection.to(port, seconds), () => Connection.now(port, seconds));
+    const opened = () => ({ out: Connection.now(port, seconds) });
+    return Recorder.#over(process, { out: await Connection.to(port, seconds) }, opened);
   }
 
   /**
    * Records to where MONITOR_TO in the environment says, so that no code changes between a test and a live session: to
    * a new file NAME.stream in a folder of this name, which is made if there is none; or to `monitor serve` on a port of
-   * this machine, of :7411 or localhost:7411.
+   * this machine, of :7411 or localhost:7411. With MONITOR_NOTES=1 each event gets a note beside the file; a port has no
+   * place for notes, so the two together are refused.
    */
-  static async fromEnvironment(process) {
+  static async fromEnvironment(process, { replace = false } = {}) {
     checkedName("process", process);
     const place = environment.MONITOR_TO ?? "";
+    const notes = hasNotes(environment.MONITOR_NOTES ?? "");
     const advice = "it names a folder, or a port from 1 to 65534 as :7411";
     if (place === "") throw new NotRecorded("place", `MONITOR_TO isn't set: ${advice}`);
     const port = /^(?:localhost|127\.0\.0\.1)?:([0-9]{1,5})$/.exec(place);
     if (port === null) {
       fs.mkdirSync(place, { recursive: true });
-      return Recorder.toFile(process, path.join(place, `${process}.stream`));
+      return Recorder.toFile(process, path.join(place, process + ENDING), { notes, replace });
     }
     if (port[1] < 1 || port[1] > 65_534) throw new NotRecorded("place", `MONITOR_TO is ${place}: ${advice}`);
+    if (notes) {
+      const instead = "unset MONITOR_NOTES, or let MONITOR_TO name a folder";
+      throw new NotRecorded("notes", `notes go to a file, but MONITOR_TO is the port ${place}: ${instead}`);
+    }
     return Recorder.toPort(process, Number(port[1]));
   }
 
-  static #over(process, out, opened) {
+  static #over(process, { out, notes }, opened) {
     try {
       const recorder = new Recorder(process, out);
+      recorder.#notes = notes;
       recorder.#family.opened = opened;
       return recorder;
     } catch (error) {
       out.close();
+      notes?.close();
       throw error;
     }
   }
@@ -145,9 +172,12 @@ class Recorder {
     return current.run(this, work, this);
   }
 
-  /** Something happened in this process; these variables have these values from now on. */
-  event(variables = {}) {
-    this.#record(undefined, undefined, variables);
+  /**
+   * Something happened in this process; these variables have these values from now on. Last in this call, and in those
+   * of `send`, `sendAs`, `receive` and `join`, `{ note: "a text" }` may stand, the text of the event's note.
+   */
+  event(variables = {}, options) {
+    this.#record(undefined, undefined, variables, { text: textIn(options) });
   }
 
   /**
@@ -155,27 +185,27 @@ class Recorder {
    * the message leaves. The id that it makes, the process's name and a counter as in `left-1`, has to travel with the
    * message. A text before the variables is the id, as of `sendAs`, and is given back.
    */
-  send(first = {}, variables) {
+  send(first = {}, second, third) {
     if (typeof first === "string") {
-      this.sendAs(first, variables);
+      this.sendAs(first, second, third);
       return first;
     }
-    if (variables !== undefined) {
+    if (third !== undefined || (second !== undefined && typeof second?.note !== "string")) {
       const advice = "write send({ inside: 1 }) to have an id made, or sendAs(id, { inside: 1 })";
       throw new NotRecorded("id", `the id of a message must be a text, and is ${kindOf(first)}: ${advice}`);
     }
     this.#checkRoom();
-    return this.#sendAny(first);
+    return this.#sendAny(first, { text: textIn(second) });
   }
 
   /** The same, with an id that no other send of the session has. */
-  sendAs(message, variables = {}) {
-    this.#record("send", checkedId(message), variables);
+  sendAs(message, variables = {}, options) {
+    this.#record("send", checkedId(message), variables, { text: textIn(options) });
   }
 
   /** A message has come, with this id: call it AFTER that. A second copy of a message is refused as `id-twice`. */
-  receive(message, variables = {}) {
-    this.#record("recv", checkedId(message), variables);
+  receive(message, variables = {}, options) {
+    this.#record("recv", checkedId(message), variables, { text: textIn(options) });
   }
 
   /**
@@ -196,14 +226,14 @@ class Recorder {
    * This process has waited for a strand, which has ended: call it AFTER that. It receives the strand's last message;
    * these variables have these values from now on.
    */
-  join(strand, variables = {}) {
+  join(strand, variables = {}, options) {
     this.#checkRoom();
     const last = strand instanceof Recorder ? strand.#last : undefined;
     if (last === undefined) {
       const name = strand instanceof Recorder ? strand.#process : String(strand);
       throw new NotRecorded("not-ended", `${name} is no strand that has ended: wait for it, and then join it`);
     }
-    this.#record("recv", last, variables);
+    this.#record("recv", last, variables, { text: textIn(options), at: strand.#begunAt });
   }
 
   /** How many events are recorded. */
@@ -221,7 +251,7 @@ class Recorder {
       if (!this.#isStrand) this.#family.endAll((strand) => strand.#cutOff());
     } finally {
       this.#checkOpen();
-      if (this.#isStrand) this.#last = this.#sendAny({});
+      if (this.#isStrand) this.#last = this.#sendAny({}, { at: this.#begunAt });
       this.#write('{"end":true}');
       this.#close();
     }
@@ -243,7 +273,9 @@ class Recorder {
   #close() {
     const isClosed = this.#state === ENDED;
     this.#state = ENDED;
-    if (!isClosed) this.#out.close();
+    if (isClosed) return;
+    this.#out.close();
+    this.#notes?.close();
   }
 
   /** The process of this strand ends before it: writes the end line alone. */
@@ -257,10 +289,10 @@ class Recorder {
 
   #begun(name) {
     this.#checkRoom();
-    const out = this.#family.openedFor(name);
-    const strand = Recorder.#over(name, out);
+    const strand = Recorder.#over(name, this.#family.openedFor(name));
     strand.#family = this.#family;
     strand.#isStrand = true;
+    strand.#begunAt = this.#notes && placeOfCaller();
     this.#family.add(name, strand);
     try {
       strand.receive(this.send());
@@ -271,18 +303,18 @@ class Recorder {
     return strand;
   }
 
-  #sendAny(variables) {
+  #sendAny(variables, note) {
     let number = this.#made + 1;
     while (this.#ids.has(`${this.#process}-${number}`)) number++;
     const message = `${this.#process}-${number}`;
-    this.#put("send", message, variables);
+    this.#put("send", message, variables, note);
     this.#made = number;
     return message;
   }
 
-  #record(field, message, variables) {
+  #record(field, message, variables, note) {
     this.#checkRoom();
-    this.#put(field, message, variables);
+    this.#put(field, message, variables, note);
   }
 
   /** One of a strand's events is kept for its end. */
@@ -294,8 +326,8 @@ class Recorder {
     }
   }
 
-  /** Checks the message and the variables of an event, and writes its line. */
-  #put(field, message, variables) {
+  /** Checks the message and the variables of an event, and writes its note, if it has one, and its line. */
+  #put(field, message, variables, note) {
     if (this.#ids.has(message)) {
       throw new NotRecorded("id-twice", `${this.#process} has sent or received ${JSON.stringify(message)} before`);
     }
@@ -305,6 +337,7 @@ class Recorder {
     if (entries.length > 0) {
       fields.push(`"set":{${entries.map(([name, value]) => `"${name}":${checkedValue(name, value)}`).join(",")}}`);
     }
+    this.#note(note);
     this.#write(`{${fields.join(",")}}`);
     this.#events++;
     this.#names = names;
@@ -324,6 +357,16 @@ class Recorder {
     if (this.#state !== OPEN) {
       throw new NotRecorded(this.#state, `the recording of ${this.#process} ${STATES[this.#state]}`);
     }
+  }
+
+  /**
+   * Writes the note of the event whose line is written next, if the events have notes: so each event that a stream has
+   * has its note. If the call comes from no other file, as where a function of a strand has ended, it is `at` that place.
+   */
+  #note({ text = "", at = "" }) {
+    if (this.#notes === undefined) return;
+    this.#state = BROKEN;
+    this.#notes.write(noteOf(this.#process, this.#events + 1, text, placeOfCaller() || at));
   }
 
   // With the limits above no line has over 1,400 bytes, and no stream over 14,000,000: monitor takes more.
@@ -426,6 +469,101 @@ class Awaited {
     this.#isJoined = true;
     if (!wasJoined) this.#parent.join(this.#strand);
   }
+}
+
+/** The files of a stream and, if it has some, of its notes. What it replaces has no notes any more. */
+function openedFiles(file, { notes = false, replace = false }) {
+  const out = openedFile(file, replace);
+  const beside = file.slice(0, -ENDING.length) + NOTES_ENDING;
+  try {
+    if (notes) return { out, notes: openedFile(beside, replace) };
+    if (replace && file.endsWith(ENDING)) fs.rmSync(beside, { force: true });
+    return { out };
+  } catch (error) {
+    out.close();
+    if (!replace) fs.rmSync(file);
+    throw error;
+  }
+}
+
+function openedFile(file, replace) {
+  try {
+    return new Descriptor(fs.openSync(file, replace ? "w" : "wx"));
+  } catch (error) {
+    throw error.code === "EEXIST" ? already(error) : error;
+  }
+}
+
+function already(error) {
+  error.message += ": a recording isn't written over: record to another file or folder, remove it, or say replace: true";
+  return error;
+}
+
+/** The file of a strand, in the folder of its process's file, which isn't replaced. */
+function besideOf(first, name, { replace }) {
+  const file = path.join(path.dirname(first), name + ENDING);
+  const [one, other] = [file, first].map((of) => fs.statSync(of, { bigint: true, throwIfNoEntry: false }));
+  if (replace && one && other && one.ino === other.ino && one.dev === other.dev) {
+    throw already(systemError("open", "EEXIST"));
+  }
+  return file;
+}
+
+/** Whether what MONITOR_NOTES says is that events have notes. */
+function hasNotes(text) {
+  if (!["", "0", "1"].includes(text)) {
+    const shown = JSON.stringify(text.slice(0, SHOWN));
+    throw new NotRecorded("notes", `MONITOR_NOTES is ${shown}, and is 1 if events are to have notes, or else 0`);
+  }
+  return text === "1";
+}
+
+/** The text of a note that stands last in a call. */
+function textIn(options) {
+  if (options === undefined) return "";
+  if (typeof options?.note !== "string") {
+    throw new NotRecorded("note", `a note is written as { note: "a text" }, and not ${kindOf(options)}`);
+  }
+  return options.note;
+}
+
+/** The line of a note: `event` is its number in the stream, from 1. */
+function noteOf(process, event, text, place) {
+  const milliseconds = performance.timeOrigin + performance.now();
+  const microseconds = BigInt(Math.round(milliseconds * 1000));
+  const clock = `${microseconds / 1_000_000n}.${String(microseconds % 1_000_000n).padStart(6, "0")}`;
+  const fields = `"process": "${process}", "event": ${event}, "text": ${escaped(bounded(text))}`;
+  return `{${fields}, "place": ${escaped(place)}, "clock": ${clock}}\n`;
+}
+
+/** FILE:LINE of the code that has called into this file, or no text. */
+function placeOfCaller() {
+  const limit = Error.stackTraceLimit;
+  Error.stackTraceLimit = FRAMES;
+  const { stack } = new Error();
+  Error.stackTraceLimit = limit;
+  for (const line of String(stack).split("\n").slice(1)) {
+    const at = /^ *at (?:async )?(.*)$/.exec(line)?.[1] ?? "";
+    const isNamed = at.endsWith(")") && at.includes(" (");
+    const found = /^(.*):([0-9]+):[0-9]+$/.exec(isNamed ? at.slice(at.indexOf(" (") + 2, -1) : at);
+    if (found === null || found[1].startsWith("node:")) continue;
+    const file = found[1].startsWith("file://") ? fileURLToPath(found[1]) : found[1];
+    if (file !== __filename) return `${bounded(file)}:${found[2]}`;
+  }
+  return "";
+}
+
+/** The text without what UTF-8 can't say, and cut if it is too long. */
+function bounded(text) {
+  const bytes = Buffer.from(text.slice(0, NOTE_BYTE_LIMIT)); // half of a pair of surrogates is U+FFFD then
+  let size = Math.min(bytes.length, NOTE_BYTE_LIMIT);
+  while (size < bytes.length && (bytes[size] & 0xc0) === 0x80) size--;
+  return bytes.subarray(0, size).toString();
+}
+
+function escaped(text) {
+  const hex = (character) => `\\u${character.charCodeAt(0).toString(16).padStart(4, "0")}`;
+  return JSON.stringify(text).replace(ESCAPED, hex);
 }
 
 /** A file, a pipe or the like that is open for writing. */
@@ -634,4 +772,5 @@ module.exports = {
   PROCESS_LIMIT,
   NAME_BYTE_LIMIT,
   ID_BYTE_LIMIT,
+  NOTE_BYTE_LIMIT,
 };

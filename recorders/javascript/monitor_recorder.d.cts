@@ -10,6 +10,8 @@ export const PROCESS_LIMIT: 16;
 export const NAME_BYTE_LIMIT: 32;
 /** At most so many bytes of UTF-8 has the id of a message, and at least one. */
 export const ID_BYTE_LIMIT: 64;
+/** At most so many bytes of UTF-8 has a note of its text, and of its place's file: what is longer is cut. */
+export const NOTE_BYTE_LIMIT: 1_024;
 
 /** Why a call was refused. */
 export type Reason =
@@ -41,6 +43,10 @@ export type Reason =
   | "not-ended"
   /** MONITOR_TO isn't set, or is a port that there isn't. */
   | "place"
+  /** There is no place for notes, as at a port, or MONITOR_NOTES is neither 1 nor 0. */
+  | "notes"
+  /** What stands where a note may is none, as { note: "a text" }. */
+  | "note"
   /** An earlier line could not be written, so none is any more. */
   | "broken";
 
@@ -54,13 +60,20 @@ export class NotRecorded extends Error {
 /** Variables, and the values that they have from now on: whole numbers, or true for 1 and false for 0. */
 export type Variables = Readonly<Record<string, number | bigint | boolean>>;
 
+/** The text of an event's note. It says nothing if events have no notes. */
+export type Noted = Readonly<{ note: string }>;
+
 /** The recording of one process, or of a strand of one. It writes its first line when it is made. */
 export class Recorder {
   /** Records to a file, a pipe or the like that is open for writing, which is closed with the recorder. */
   constructor(process: string, descriptor: number);
 
-  /** Records to a new file. One that is there already is an error with the code EEXIST. */
-  static toFile(process: string, path: string): Recorder;
+  /**
+   * Records to a new file. One that is there already is an error with the code EEXIST; with `replace` it is lost, with
+   * its notes. With `notes` each event gets a note, in a file beside: that of `left.stream` is `left.notes.jsonl`. The
+   * path has to end with `.stream` then. docs/RECORDING.md has the format.
+   */
+  static toFile(process: string, path: string, options?: { notes?: boolean; replace?: boolean }): Recorder;
 
   /**
    * Records to `monitor serve` on a port of this machine, 1 to 65,534, which may listen up to ten seconds later, or as
@@ -72,9 +85,10 @@ export class Recorder {
   /**
    * Records to where MONITOR_TO in the environment says, so that no code changes between a test and a live session: to
    * a new file NAME.stream in a folder of this name, which is made if there is none; or to `monitor serve` on a port of
-   * this machine, of :7411 or localhost:7411.
+   * this machine, of :7411 or localhost:7411. With MONITOR_NOTES=1 each event gets a note beside the file; a port has no
+   * place for notes, so the two together are refused.
    */
-  static fromEnvironment(process: string): Promise<Recorder>;
+  static fromEnvironment(process: string, options?: { replace?: boolean }): Promise<Recorder>;
 
   /** The recorder with which this code was called by `within` or `strand`, or undefined. */
   static current(): Recorder | undefined;
@@ -100,26 +114,29 @@ export class Recorder {
    * This process has waited for a strand, which has ended: call it AFTER that. It receives the strand's last message;
    * these variables have these values from now on.
    */
-  join(strand: Recorder, variables?: Variables): void;
+  join(strand: Recorder, variables?: Variables, options?: Noted): void;
 
-  /** Something happened in this process; these variables have these values from now on. */
-  event(variables?: Variables): void;
+  /**
+   * Something happened in this process; these variables have these values from now on. Last in this call, and in those
+   * of `send`, `sendAs`, `receive` and `join`, `{ note: "a text" }` may stand, the text of the event's note.
+   */
+  event(variables?: Variables, options?: Noted): void;
 
   /**
    * This process sends a message to one other or, if the document is of version 2, to several: call it once, BEFORE
    * the message leaves. The id that it makes, the process's name and a counter as in `left-1`, has to travel with the
    * message.
    */
-  send(variables?: Variables): string;
+  send(variables?: Variables, options?: Noted): string;
 
   /** The same, with an id that no other send of the session has, which it gives back: as `sendAs`. */
-  send(message: string, variables?: Variables): string;
+  send(message: string, variables?: Variables, options?: Noted): string;
 
   /** The same, with an id that no other send of the session has. */
-  sendAs(message: string, variables?: Variables): void;
+  sendAs(message: string, variables?: Variables, options?: Noted): void;
 
   /** A message has come, with this id: call it AFTER that. A second copy of a message is refused as `id-twice`. */
-  receive(message: string, variables?: Variables): void;
+  receive(message: string, variables?: Variables, options?: Noted): void;
 
   /** How many events are recorded. */
   get events(): number;

@@ -248,6 +248,115 @@ function openedWithStrands() {
 const whole = (name, ...events) =>
   [`{"process":"${name}"}`, '{"recv":"left-1"}', ...events, `{"send":"${name}-1"}`, '{"end":true}', ""].join("\n");
 
+/** The notes of a process, without their clocks, and the line of this file that is the place of each. */
+function notesIn(at, name) {
+  const source = fs.readFileSync(__filename, "utf8").split("\n");
+  const lines = fs.readFileSync(path.join(at, `${name}.notes.jsonl`), "utf8").split("\n");
+  assert.equal(lines.pop(), "");
+  return lines.map((line, number) => {
+    const note = JSON.parse(line);
+    assert.deepEqual(Object.keys(note), ["process", "event", "text", "place", "clock"]);
+    assert.deepEqual([note.process, note.event], [name, number + 1]);
+    assert.ok(Math.abs(note.clock - Date.now() / 1000) < 600, line);
+    assert.ok(note.place.startsWith(`${__filename}:`), line);
+    return [note.text, source[note.place.slice(__filename.length + 1) - 1].trim()];
+  });
+}
+
+function openedWithNotes() {
+  const at = fs.mkdtempSync(path.join(folder, "notes-"));
+  return { recorder: Recorder.toFile("left", path.join(at, "left.stream"), { notes: true }), at };
+}
+
+test("notes of tasks", async () => {
+  const { recorder, at } = openedWithNotes();
+  const deepBelow = async () => {
+    await sleep(1);
+    Recorder.current().event({ x: 1 }, { note: "below" });
+  };
+  await recorder.strand("worker", deepBelow); // awaited
+  recorder.send({ x: 1 }, { note: "sent" });
+  recorder.sendAs("own", {}, { note: "a\ud800b\udfff" });
+  recorder.send("other", undefined, { note: "also sent" });
+  const strand = recorder.strand("other");
+  strand.close();
+  recorder.join(strand, { x: 2 }, { note: "joined" });
+  recorder.end();
+  assert.deepEqual(notesIn(at, "left"), [
+    ["", 'await recorder.strand("worker", deepBelow); // awaited'],
+    ["", 'await recorder.strand("worker", deepBelow); // awaited'],
+    ["sent", 'recorder.send({ x: 1 }, { note: "sent" });'],
+    ["a\ufffdb\ufffd", 'recorder.sendAs("own", {}, { note: "a\\ud800b\\udfff" });'],
+    ["also sent", 'recorder.send("other", undefined, { note: "also sent" });'],
+    ["", 'const strand = recorder.strand("other");'],
+    ["joined", 'recorder.join(strand, { x: 2 }, { note: "joined" });'],
+  ]);
+  assert.deepEqual(notesIn(at, "worker"), [
+    ["", 'await recorder.strand("worker", deepBelow); // awaited'],
+    ["below", 'Recorder.current().event({ x: 1 }, { note: "below" });'],
+    ["", 'await recorder.strand("worker", deepBelow); // awaited'],
+  ]);
+});
+
+test("what is no note, and no place for one", async () => {
+  const { recorder, text } = opened();
+  for (const options of [null, "a text", 7, {}, { note: 7 }]) {
+    refused("note", () => recorder.event({}, options));
+    refused("note", () => recorder.receive("m", {}, options));
+  }
+  for (const last of [{ x: 1 }, "a text", null]) refused("id", () => recorder.send({}, last));
+  refused("id", () => recorder.send({}, { note: "said" }, {}));
+  assert.equal(text(), JOIN);
+  for (const name of ["left", "left.stream.txt"]) {
+    refused("notes", () => Recorder.toFile("left", path.join(folder, name), { notes: true }));
+  }
+  const into = path.join(folder, "noted");
+  const at = async (notes, place = into) => {
+    [process.env.MONITOR_TO, process.env.MONITOR_NOTES] = [place, notes];
+    return Recorder.fromEnvironment("left", { replace: true });
+  };
+  (await at("1")).end();
+  assert.deepEqual(fs.readdirSync(into), ["left.notes.jsonl", "left.stream"]);
+  for (const notes of ["", "0"]) {
+    (await at(notes)).end();
+    assert.deepEqual(fs.readdirSync(into), ["left.stream"]);
+  }
+  await assert.rejects(at("yes"), { reason: "notes" });
+  await assert.rejects(at("1", ":7411"), { reason: "notes" });
+  delete process.env.MONITOR_TO;
+  delete process.env.MONITOR_NOTES;
+});
+
+test("files that are replaced, and that aren't", () => {
+  const at = fs.mkdtempSync(path.join(folder, "replaced-"));
+  const file = path.join(at, "left.stream");
+  fs.writeFileSync(path.join(at, "left.notes.jsonl"), "mine");
+  const isThere = { code: "EEXIST", message: /a recording isn't written over/ };
+  assert.throws(() => Recorder.toFile("left", file, { notes: true }), isThere);
+  assert.deepEqual(fs.readdirSync(at), ["left.notes.jsonl"]);
+  for (let turn = 0; turn < 2; turn++) {
+    const recorder = Recorder.toFile("left", file, { notes: true, replace: true });
+    recorder.strand("worker").end();
+    recorder.end();
+  }
+  assert.equal(fs.readFileSync(file, "utf8"), `${JOIN}{"send":"left-1"}\n${END}`);
+  Recorder.toFile("left", file, { replace: true }).end();
+  assert.deepEqual(fs.readdirSync(at), ["left.stream", "worker.notes.jsonl", "worker.stream"]);
+  const other = Recorder.toFile("other", file, { replace: true });
+  assert.throws(() => other.strand("left"), isThere);
+  other.end();
+});
+
+test("after a note that could not be written nothing is", () => {
+  const at = fs.mkdtempSync(path.join(folder, "full-"));
+  fs.symlinkSync("/dev/full", path.join(at, "left.notes.jsonl"));
+  const recorder = Recorder.toFile("left", path.join(at, "left.stream"), { notes: true, replace: true });
+  assert.throws(() => recorder.event(), { code: "ENOSPC" });
+  refused("broken", () => recorder.event());
+  recorder.close();
+  assert.equal(fs.readFileSync(path.join(at, "left.stream"), "utf8"), JOIN);
+});
+
 test("async functions have their own strand as the current one", async () => {
   const { recorder, text } = openedWithStrands();
   const deepBelow = async () => {

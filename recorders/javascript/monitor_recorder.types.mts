@@ -32,6 +32,14 @@ export async function takes(descriptor: number): Promise<Reason | undefined> {
   return undefined;
 }
 
+export async function takesNotes(): Promise<void> {
+  const left = Recorder.toFile("left", "left.stream", { notes: true, replace: true });
+  left.event({ inside: 1 }, { note: "a text" });
+  const id: string = left.send({ inside: 0 }, { note: "a text" }) + left.send("own", {}, { note: "a text" });
+  left.receive(id, {}, { note: "a text" });
+  (await Recorder.fromEnvironment("right", { replace: true })).end();
+}
+
 export function refuses(left: Recorder): void {
   // @ts-expect-error: a value is no text
   left.event({ inside: "1" });
@@ -39,6 +47,10 @@ export function refuses(left: Recorder): void {
   left.send({ inside: 1 }, "an id");
   // @ts-expect-error: variables are no Map
   left.event(new Map([["inside", 1]]));
+  // @ts-expect-error: a note is an object
+  left.event({ inside: 1 }, "a text");
+  // @ts-expect-error: a port has no place for notes
+  Recorder.toPort("right", 7411, { notes: true });
   // @ts-expect-error: a receipt has an id
   left.receive();
   // @ts-expect-error: what is recorded is not for others to set

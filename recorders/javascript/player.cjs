@@ -8,24 +8,30 @@ const CANNOT = new Error("JavaScript has no such call");
 
 let recorder;
 let recorders;
+let options; // of the call, if it has a note
 
 const calls = {
   file: (process, path) => begin(process, Recorder.toFile(textOf(process), textOf(path))),
+  noted: (process, path) => begin(process, Recorder.toFile(textOf(process), textOf(path), { notes: true })),
+  replaced: (process, path) => begin(process, Recorder.toFile(textOf(process), textOf(path), { replace: true })),
   port: async (process, port, seconds) =>
     begin(process, await Recorder.toPort(textOf(process), Number(port), { seconds: Number(seconds) })),
   strand: (name) => void recorders.set(name, recorder.strand(textOf(name))),
-  join: (name, ...words) => recorder.join(recorders.get(name), settingsOf(words)),
+  join: (name, ...words) => recorder.join(recorders.get(name), settingsOf(words), options),
   in: callIn,
-  event: (...words) => recorder.event(settingsOf(words)),
-  send: (...words) => recorder.send(settingsOf(words)),
-  "send-text": (message, ...words) => recorder.send(textOf(message), settingsOf(words)),
-  "send-as": (message, ...words) => recorder.sendAs(textOf(message), settingsOf(words)),
-  receive: (message, ...words) => recorder.receive(textOf(message), settingsOf(words)),
+  note: callNoted,
+  event: (...words) => recorder.event(settingsOf(words), options),
+  send: (...words) => recorder.send(settingsOf(words), options),
+  "send-text": (message, ...words) => recorder.send(textOf(message), settingsOf(words), options),
+  "send-as": (message, ...words) => recorder.sendAs(textOf(message), settingsOf(words), options),
+  receive: (message, ...words) => recorder.receive(textOf(message), settingsOf(words), options),
   events: () => recorder.events,
   end: () => recorder.end(),
   close: () => recorder?.close(),
   threads: (count, turns) => run(Number(count), takeTurns, Number(turns)),
   flood: (count) => run(Number(count), sendAll),
+  locked: cannot,
+  unlocked: cannot,
   lock: cannot,
   unlock: cannot,
   put: cannot,
@@ -50,6 +56,16 @@ async function callIn(name, call, ...words) {
     return await calls[call](...words);
   } finally {
     recorder = process;
+  }
+}
+
+/** Makes the call with a text for its note. */
+async function callNoted(text, call, ...words) {
+  options = { note: textOf(text) };
+  try {
+    return await calls[call](...words);
+  } finally {
+    options = undefined;
   }
 }
 

@@ -16,6 +16,9 @@ Of a process that was started again, which recorded by `again`, the streams are 
 incarnation to the beginning of the next. With --one-process they become one stream of the process. --killed sets a
 variable at the end of each stream that had no end line.
 
+If a stream has notes beside it, as `left.notes.jsonl`, the copy has those of its events. A last note that was cut short
+is dropped, and so is one of an event that isn't in the stream; what it says is printed.
+
 With --orphans-as-local a receipt of a message that none of these streams sends becomes a local event, so all streams of
 the session have to be given. recorders/python/README.md says what a report still shows then.
 
@@ -27,13 +30,15 @@ import os
 import re
 import sys
 
-from importing import Refused, initial, replaced_files, written_folder
-from monitor_recorder import (EVENT_LIMIT, GREATEST_VALUE, ID_BYTE_LIMIT, LEAST_VALUE, NotRecorded, checked_name,
-                              ending_of)
+from importing import Refused, initial, replaced_files, shown, written_folder
+from monitor_recorder import (EVENT_LIMIT, GREATEST_VALUE, ID_BYTE_LIMIT, LEAST_VALUE, NOTES_ENDING, NotRecorded,
+                              checked_name, ending_of)
 
 LINE_BYTE_LIMIT = 65_536
 STREAM_BYTE_LIMIT = 16_777_216
 ENDING = ".stream"
+# So many bytes has no file of notes: 10,000 of them, and the texts and places as long as can be.
+NOTES_BYTE_LIMIT = 10 * STREAM_BYTE_LIMIT
 # So many numbers of lines are named of those of which the same is said.
 SHOWN = 8
 JOIN, EVENT, END = "join", "event", "end"
@@ -135,6 +140,7 @@ class Stream:
         self.events = []
         self.is_ended = False
         self.rest = b""
+        self.notes = None
         self.done = []
 
     def refused(self, number, why):
@@ -183,13 +189,13 @@ class Stream:
         return head + ("mended:" + "".join(f"\n  {what}" for what in self.done) if self.done else "whole")
 
 
-def bytes_of(path):
+def bytes_of(path, limit=STREAM_BYTE_LIMIT, none_has="no stream has"):
     if not os.path.isfile(path):
         raise Refused(f"{path}: there is no such file" if not os.path.exists(path) else f"{path}: this is no file")
     with open(path, "rb") as file:
-        data = file.read(STREAM_BYTE_LIMIT + 1)
-    if len(data) > STREAM_BYTE_LIMIT:
-        raise Refused(f"{path}: it has over {STREAM_BYTE_LIMIT} bytes, and no stream has: often the wrong file")
+        data = file.read(limit + 1)
+    if len(data) > limit:
+        raise Refused(f"{path}: it has over {limit} bytes, and {none_has}: often the wrong file")
     return data
 
 
@@ -333,6 +339,7 @@ def go_on(first, after, ids):
         first.lines.pop()
         first.is_ended, first.rest = False, b""
     message = after.events[0][2]["recv"]
+    add_notes(first, after, len(first.events))
     make_local(first, next(place for place in reversed(range(len(first.events)))
                            if first.events[place][2].get("send") == message))
     for _, _, value in after.events:
@@ -350,6 +357,71 @@ def make_local(stream, place):
 ORPHANS = """\
 receipts that are local events now: {}. Order is left out with them, so of the recorded events 'possibly no' and
 'definitely yes' still hold, and 'possibly yes' and 'definitely no' only say that it may be so."""
+
+
+# Notes
+
+def notes_path(path):
+    """The file of the notes of a stream, or None if there can be none beside it."""
+    return path[:-len(ENDING)] + NOTES_ENDING if path.endswith(ENDING) else None
+
+
+def read_notes(stream):
+    """Reads the notes of a stream, if there are some beside it, as long as nothing is added to the stream. Those of
+    events that aren't in it are dropped, and it is said what they say."""
+    path = notes_path(stream.path)
+    if path is None or not os.path.lexists(path):
+        return
+    *lines, torn = bytes_of(path, NOTES_BYTE_LIMIT, "no notes have").split(b"\n")
+    stream.notes, cut = [], []
+    last = 0
+    for number, line in enumerate(lines, 1):
+        note = note_in(path, number, line, stream.process, last)
+        last = note["event"]
+        (stream.notes if last <= len(stream.events) else cut).append((note, line + b"\n"))
+    stream.done += [f"event {note['event']} isn't in it, and its note is dropped: "
+                    f"{shown(note.get('text'))} at {shown(note.get('place'))}" for note, _ in cut[:SHOWN]]
+    if len(cut) > SHOWN:
+        stream.done.append(f"notes of {len(cut) - SHOWN} more events that aren't in it are dropped")
+    if torn:
+        stream.done.append(f"line {len(lines) + 1} of its notes was cut short and is dropped")
+
+
+def note_in(path, number, line, process, last):
+    """The note in a line, if it is one of this process, of an event after the last one."""
+    try:
+        note = value_of_line(line)
+        if not isinstance(note, dict) or note.get("process") != process or type(note.get("event")) is not int:
+            raise Faulty(f"this is no note of an event of {process}")
+        if note["event"] <= last:
+            raise Faulty(f"the note of event {note['event']} stands after that of event {last}")
+        return note
+    except (Torn, Faulty) as fault:
+        raise Refused(f"{path} line {number}: {fault}; without this file the stream is mended alone") from None
+
+
+def add_notes(first, after, count):
+    """Adds the notes of a later incarnation, as those of events that come after so many."""
+    if after.notes is not None:
+        later = [renumbered(note, line, first.process, note["event"] + count) for note, line in after.notes]
+        first.notes = [*(first.notes or []), *later]
+
+
+def renumbered(note, line, process, event):
+    """The note and its line, as that of another event."""
+    changed = {**note, "process": process, "event": event}
+    head = f'{{"process": "{note["process"]}", "event": {note["event"]}, '.encode()
+    if not line.startswith(head):
+        return changed, json.dumps(changed).encode() + b"\n"
+    return changed, f'{{"process": "{process}", "event": {event}, '.encode() + line[len(head):]
+
+
+def copies_of(stream, ending=""):
+    """The paths of the stream and of its notes, with this ending, and what is to be written there."""
+    copies = {stream.path + ending: stream.text()}
+    if stream.notes is not None:
+        copies[notes_path(stream.path) + ending] = b"".join(line for _, line in stream.notes)
+    return copies
 
 
 # Files
@@ -377,19 +449,24 @@ def refuse_second(paths, key, why):
         seen.add(key(path))
 
 
+def copied(streams, ending=""):
+    return {path: text for stream in streams for path, text in copies_of(stream, ending).items()}
+
+
 def write_streams(streams, given):
     """Writes the copies, all of them or none."""
     if given.out is not None:
         refuse_second([stream.path for stream in streams], os.path.basename,
                       f"a second file of this name can't stand in {given.out}")
         with written_folder(given.out) as folder:
-            for stream in streams:
-                with open(os.path.join(folder, os.path.basename(stream.path)), "xb") as file:
-                    file.write(stream.text())
+            for path, text in copied(streams).items():
+                with open(os.path.join(folder, os.path.basename(path)), "xb") as file:
+                    file.write(text)
     elif given.in_place:
-        replaced_files({os.path.realpath(stream.path): stream.text() for stream in streams if stream.done})
+        replaced_files({os.path.realpath(path): text
+                        for path, text in copied(stream for stream in streams if stream.done).items()})
     else:
-        copies = {f"{stream.path}.mended": stream.text() for stream in streams}
+        copies = copied(streams, ".mended")
         for path in copies:
             if os.path.lexists(path):
                 raise Refused(f"{path} is there already, and isn't written over")
@@ -401,6 +478,7 @@ def mended(given):
     streams = [read_stream(path) for path in streams_in(given.streams)]
     for stream in streams:
         begin_stream(stream)
+        read_notes(stream)
     joined = join_incarnations(streams)
     set_at_end(streams, given.killed)
     orphans = make_orphans_local(streams) if given.orphans_as_local else 0

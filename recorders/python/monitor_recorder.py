@@ -18,6 +18,9 @@ is taken for a cause:
     with worker:                                  # in the thread or task: `current()` is `worker` there
         worker.event(busy=1)
     recorder.join(worker)                         # AFTER the thread or task has been waited for
+
+Events have no names. With `notes=True` each has a note in left.notes.jsonl, of the line of the program that recorded
+it, and of a text if one is given, as by `recorder.event(inside=1, note="the lock is ours")`.
 """
 import contextlib
 import contextvars
@@ -30,6 +33,7 @@ import os
 import queue
 import re
 import socket
+import sys
 import threading
 import time
 
@@ -49,7 +53,13 @@ RESERVED = frozenset(["and", "or", "not", "true", "false"])
 CONNECT_SECONDS = 10.0
 # So many letters of a wrong value are shown.
 SHOWN = 60
-PLACE = "MONITOR_TO"
+ENDING, NOTES_ENDING = ".stream", ".notes.jsonl"
+# At most so many bytes of UTF-8 has a note of its text, and of its place's file: what is longer is cut.
+NOTE_BYTE_LIMIT = 1_024
+# Besides what JSON escapes these are: a terminal takes some for commands, and what reads lines others for their ends.
+ESCAPED = re.compile("[\x7f-\x9f\u2028\u2029]")
+SURROGATE = re.compile("[\ud800-\udfff]")
+PLACE, WITH_NOTES = "MONITOR_TO", "MONITOR_NOTES"
 PORT = re.compile(r"(?:localhost|127\.0\.0\.1)?:([0-9]{1,5})")
 PORT_LIMIT = 65_534
 OPEN, CLOSED, BROKEN = "open", "closed", "broken off, since a line could not be written"
@@ -92,6 +102,7 @@ class Recorder:
         self._outer = []
         self._variables = checked_variables(variables)
         self._out = checked_file(out)
+        self._notes = None
         self._owner = os.getpid()
         self._state = OPEN
         self._events = 0
@@ -102,8 +113,12 @@ class Recorder:
         self._state = OPEN
 
     @classmethod
-    def to_file(cls, process, path, variables=None, replace=False, again=False):
-        """Records to a new file. One that is there already is an OSError, unless it is to be replaced.
+    def to_file(cls, process, path, variables=None, replace=False, again=False, notes=False):
+        """Records to a new file. One that is there already is a FileExistsError, unless it is to be replaced, with its
+        notes.
+
+        With `notes` each event gets a note, in a file beside: that of `left.stream` is `left.notes.jsonl`. The path
+        has to end with `.stream` then. docs/RECORDING.md has the format.
 
         With `again` a file that is there is what the process recorded before it was killed and started again. Then a
         further incarnation is recorded, as a process of its own and to a file beside: of `left` and `left.stream` the
@@ -115,29 +130,36 @@ class Recorder:
             raise NotRecorded("a file that is replaced has no recording of an earlier incarnation")
 
         def opened():
-            return open(path, "wb" if replace else "xb", buffering=0)
+            return opened_files(path, notes, replace)
 
         def opened_for(name):
-            return new_file_beside(first, name, replace)
+            return opened_files(checked_beside(first, name, replace), notes, replace)
 
         first = os.path.abspath(os.fsdecode(path))  # the working directory may change
+        if notes:
+            checked_ending(first)
         if again:
             if fcntl is None:
                 raise NotRecorded("this system has no locks by which an earlier incarnation is seen to have ended")
-            return cls._incarnation(process, path, variables, opened_for)
+            return cls._incarnation(process, path, variables, notes, opened_for)
         return cls._over(process, variables, opened, opened_for)
 
     @classmethod
-    def _incarnation(cls, process, path, variables, opened_for):
+    def _incarnation(cls, process, path, variables, notes, opened_for):
         number = next(number for number in itertools.count(1) if not os.path.lexists(path_of(path, number)))
         if number > 1:
             refuse_running(incarnation_of(process, number - 1), path_of(path, number - 1))
         # It gets its name once the receipt stands in it, so that it has that whenever the process is killed.
         part = f"{path_of(path, number)}.{os.getpid()}.part"
         recorder = None
+
+        def opened():
+            # Notes that are there are of an incarnation that was killed before its stream had its name.
+            return locked_file(part), open_notes(path_of(path, number), True) if notes else None
+
         try:
             name = incarnation_of(process, number)
-            recorder = cls._over(name, variables, lambda: locked_file(part), opened_for)
+            recorder = cls._over(name, variables, opened, opened_for)
             if number > 1:
                 recorder.receive(ending_of(incarnation_of(process, number - 1)))
             os.rename(part, path_of(path, number))
@@ -153,36 +175,41 @@ class Recorder:
     def to_port(cls, process, port, variables=None, seconds=CONNECT_SECONDS):
         """Records to `monitor serve` on a port of this machine. If nobody listens there yet, it is tried again until
         these seconds have passed, and then is an OSError. A call waits while the monitor doesn't read."""
-        return cls._over(process, variables, lambda: connection_to(port, seconds),
-                         lambda _name: connection_to(port, seconds))
+        return cls._over(process, variables, lambda: (connection_to(port, seconds), None),
+                         lambda _name: (connection_to(port, seconds), None))
 
     @classmethod
-    def from_environment(cls, process, variables=None):
+    def from_environment(cls, process, variables=None, replace=False):
         """Records to where MONITOR_TO in the environment says, so that no code changes between a test and a live
         session: to a new file NAME.stream in a folder of this name, which is made if there is none; or to `monitor
-        serve` on a port of this machine, of :7411 or localhost:7411."""
+        serve` on a port of this machine, of :7411 or localhost:7411. With MONITOR_NOTES=1 each event gets a note beside
+        the file; a port has no place for notes, so the two together are refused."""
         checked_name("process", process)
-        place = os.environ.get(PLACE, "")
+        place, notes = os.environ.get(PLACE, ""), has_notes(os.environ.get(WITH_NOTES, ""))
         if place == "":
             raise NotRecorded(f"{PLACE} isn't set: it names a folder, or a port as :7411")
         port = PORT.fullmatch(place)
         if port is None:
             os.makedirs(place, exist_ok=True)
-            return cls.to_file(process, os.path.join(place, f"{process}.stream"), variables)
+            return cls.to_file(process, os.path.join(place, f"{process}.stream"), variables, replace, notes=notes)
         if not 1 <= int(port[1]) <= PORT_LIMIT:
             raise NotRecorded(f"{PLACE} is {place}, and a port is a number from 1 to {PORT_LIMIT}")
+        if notes:
+            raise NotRecorded(f"{WITH_NOTES} is 1, and notes go to a file beside the stream, but {PLACE} is the port "
+                              f"{place}: unset {WITH_NOTES}, or let {PLACE} name a folder")
         return cls.to_port(process, int(port[1]), variables)
 
     @classmethod
     def _over(cls, process, variables, opened, opened_for):
         checked_name("process", process)
         declared = checked_variables(variables)
-        out = opened()
+        out, notes = opened()
         try:
             recorder = cls(process, out, declared)
         except BaseException:
-            out.close()
+            close_all(out, notes)
             raise
+        recorder._notes = notes
         recorder._family.opened_for = opened_for
         return recorder
 
@@ -192,7 +219,8 @@ class Recorder:
         return self._events
 
     def event(self, /, **variables):
-        """Something happened in this process; these variables have these values from now on."""
+        """Something happened in this process; these variables have these values from now on. A text `note` is no
+        variable but the event's note, in this call and in the next four."""
         with self._ready():
             self._refuse_full()
             self._record({}, None, variables)
@@ -297,11 +325,11 @@ class Recorder:
 
     def _abandon(self):
         if os.getpid() != self._owner:
-            self._out.close()
+            close_all(self._out, self._notes)
             return
         with self.lock:
             self._state = CLOSED
-            self._out.close()
+            close_all(self._out, self._notes)
 
     @contextlib.contextmanager
     def _ready(self):
@@ -333,9 +361,12 @@ class Recorder:
         return message
 
     def _record(self, line, message, variables):
+        text = variables.pop("note") if isinstance(variables.get("note"), str) else ""
         names = self._checked_names(variables)
         if variables:
             line["set"] = {name: checked_value(name, value) for name, value in variables.items()}
+        if self._notes is not None:
+            self._note(text)
         self._write(line)
         self._events += 1
         self._names = names
@@ -368,6 +399,11 @@ class Recorder:
         if message in self._ids:
             raise IdTwice(f"{self.process} has sent or received {message!r} before")
         return message
+
+    def _note(self, text):
+        """Writes the note of the event whose line is written next: so each event that a stream has has its note."""
+        self._state = BROKEN
+        write_all(self._notes, note_of(self.process, self._events + 1, text, place_of_caller(), time.time_ns()))
 
     def _write(self, line):
         # With the limits above no line has over 1,400 bytes, and no stream over 14,000,000: monitor takes more.
@@ -499,12 +535,13 @@ class Family:
         """A strand of this name, which has written its first line."""
         with self._lock:
             self._refuse(name)
-            out = self.opened_for(name)
+            out, notes = self.opened_for(name)
             try:
                 strand = Strand(name, out, variables, self)
             except BaseException:
-                out.close()
+                close_all(out, notes)
                 raise
+            strand._notes = notes
             self._names.add(name)
             self._strands.append(strand)
             return strand
@@ -538,12 +575,100 @@ class Family:
             return list(self._strands)
 
 
-def new_file_beside(first, name, replace):
+def checked_beside(first, name, replace):
     """The file of a strand, in the folder of its process's file, which isn't replaced."""
-    beside = os.path.join(os.path.dirname(first), f"{name}.stream")
+    beside = os.path.join(os.path.dirname(first), name + ENDING)
     if replace and os.path.exists(beside) and os.path.samefile(beside, first):
-        raise FileExistsError(errno.EEXIST, os.strerror(errno.EEXIST), beside)
-    return open(beside, "wb" if replace else "xb", buffering=0)
+        raise already(beside)
+    return beside
+
+
+def opened_files(path, has_notes, replace):
+    """The new file of a stream, and that of its notes or None. What it replaces has no notes any more."""
+    out = new_file(path, replace)
+    try:
+        if has_notes:
+            return out, open_notes(path, replace)
+        if replace and os.fsdecode(path).endswith(ENDING):
+            with contextlib.suppress(FileNotFoundError):
+                os.unlink(notes_path(path))
+        return out, None
+    except BaseException:
+        out.close()
+        if not replace:
+            os.unlink(path)
+        raise
+
+
+def new_file(path, replace):
+    try:
+        return open(path, "wb" if replace else "xb", buffering=0)
+    except FileExistsError:
+        raise already(path) from None
+
+
+def already(path):
+    return FileExistsError(errno.EEXIST, "a recording is there already, and isn't written over: record to another "
+                                         "file or folder, remove it, or say replace=True", os.fspath(path))
+
+
+# Notes
+
+def has_notes(text):
+    if text not in ("", "0", "1"):
+        raise NotRecorded(f"{WITH_NOTES} is {text[:SHOWN]!r}, and is 1 if events are to have notes, or else 0")
+    return text == "1"
+
+
+def checked_ending(path):
+    if not path.endswith(ENDING):
+        raise NotRecorded(f"the notes of left{ENDING} are in left{NOTES_ENDING}, and {path!r} doesn't end with {ENDING}")
+    return path
+
+
+def notes_path(path):
+    """The file of the notes of a stream, whose file is `path`."""
+    return os.fsdecode(path)[:-len(ENDING)] + NOTES_ENDING
+
+
+def open_notes(path, replace):
+    return new_file(notes_path(path), replace)
+
+
+def note_of(process, event, text, place, nanoseconds):
+    """The line of a note: `event` is its number in the stream, from 1, and the time is that since 1970."""
+    seconds, microseconds = divmod(nanoseconds // 1000, 1_000_000)
+    return (f'{{"process": "{process}", "event": {event}, "text": {quoted(bounded(text))}, "place": {quoted(place)}, '
+            f'"clock": {seconds}.{microseconds:06}}}\n').encode()
+
+
+def place_of_caller():
+    """FILE:LINE of the code that has called into this module, or no text."""
+    frame = sys._getframe()
+    own = frame.f_code.co_filename
+    while frame is not None and frame.f_code.co_filename == own:
+        frame = frame.f_back
+    return "" if frame is None else f"{bounded(frame.f_code.co_filename)}:{frame.f_lineno}"
+
+
+def bounded(text):
+    """The text without what UTF-8 can't say, and cut if it is too long."""
+    whole = SURROGATE.sub("\ufffd", text[:NOTE_BYTE_LIMIT]).encode()
+    return whole[:NOTE_BYTE_LIMIT].decode(errors="ignore")
+
+
+def quoted(text):
+    return ESCAPED.sub(lambda found: f"\\u{ord(found[0]):04x}", json.dumps(text, ensure_ascii=False))
+
+
+# Files and checks
+
+def close_all(*files):
+    """Closes the files of a recording that are there. If one can't be closed, the others are."""
+    with contextlib.ExitStack() as stack:
+        for file in files:
+            if file is not None:
+                stack.callback(file.close)
 
 
 def checked_file(out):

@@ -1,5 +1,6 @@
 """Makes the calls that it is told on its standard input by the recorder for Python: see recorders/cases/README.md."""
 import collections
+import contextlib
 import json
 import sys
 import threading
@@ -29,9 +30,16 @@ class Player:
     def __init__(self):
         self.recorder = None
         self.recorders = {}
+        self.text = {}
 
     def file(self, process, path):
         self.begin(process, Recorder.to_file(text_of(process), text_of(path)))
+
+    def noted(self, process, path):
+        self.begin(process, Recorder.to_file(text_of(process), text_of(path), notes=True))
+
+    def replaced(self, process, path):
+        self.begin(process, Recorder.to_file(text_of(process), text_of(path), replace=True))
 
     def port(self, process, port, seconds):
         self.begin(process, Recorder.to_port(text_of(process), int(port), seconds=float(seconds)))
@@ -42,22 +50,22 @@ class Player:
         self.queues = collections.defaultdict(RecordedQueue)
 
     def lock(self, name):
-        self.with_current(self.locks[name].acquire)
+        self.with_current(lambda: self.locks[name].acquire())
 
     def unlock(self, name):
-        self.with_current(self.locks[name].release)
+        self.with_current(lambda: self.locks[name].release())
 
     def put(self, name):
-        self.with_current(self.queues[name].put, name)
+        self.with_current(lambda: self.queues[name].put(name))
 
     def take(self, name):
-        self.with_current(self.queues[name].get_nowait)
+        self.with_current(lambda: self.queues[name].get_nowait())
 
-    def with_current(self, call, *words):
+    def with_current(self, call):
         """Makes the call as in a block of the recorder."""
         token = CURRENT.set(self.recorder)
         try:
-            call(*words)
+            call()
         finally:
             CURRENT.reset(token)
 
@@ -65,7 +73,15 @@ class Player:
         self.recorders[name] = self.recorder.strand(text_of(name))
 
     def join(self, name, *settings):
-        self.recorder.join(self.recorders[name], **settings_of(settings))
+        self.recorder.join(self.recorders[name], **self.text, **settings_of(settings))
+
+    def note(self, text, call, *words):
+        """Makes the call with a text for its note."""
+        self.text = {"note": text_of(text)}
+        try:
+            return self.make(call, *words)
+        finally:
+            self.text = {}
 
     def in_(self, name, call, *words):
         """Makes the call by the recorder of a strand."""
@@ -76,19 +92,19 @@ class Player:
             self.recorder = process
 
     def event(self, *settings):
-        self.recorder.event(**settings_of(settings))
+        self.recorder.event(**self.text, **settings_of(settings))
 
     def send(self, *settings):
-        return self.recorder.send(**settings_of(settings))
+        return self.recorder.send(**self.text, **settings_of(settings))
 
     def send_as(self, message, *settings):
-        self.recorder.send_as(text_of(message), **settings_of(settings))
+        self.recorder.send_as(text_of(message), **self.text, **settings_of(settings))
 
     def send_text(self, message, *settings):
         return self.recorder.send(text_of(message), **settings_of(settings))
 
     def receive(self, message, *settings):
-        self.recorder.receive(text_of(message), **settings_of(settings))
+        self.recorder.receive(text_of(message), **self.text, **settings_of(settings))
 
     def events(self):
         return str(self.recorder.events)
@@ -136,6 +152,26 @@ class Player:
         self.run(int(count), lambda number: self.take_strand(strands[number], int(turns)))
         for strand in strands:
             self.recorder.join(strand)
+
+    def locked(self, count, turns):
+        self.contend(int(count), int(turns), RecordedLock())
+
+    def unlocked(self, count, turns):
+        self.contend(int(count), int(turns), contextlib.nullcontext())
+
+    def contend(self, count, turns, lock):
+        """Strands that go inside by turns, by this lock."""
+        strands = [self.recorder.strand(f"strand{number}") for number in range(count)]
+        self.run(count, lambda number: self.go_inside(strands[number], turns, lock))
+        for strand in strands:
+            self.recorder.join(strand)
+
+    def go_inside(self, strand, turns, lock):
+        with strand:
+            for _ in range(turns):
+                with lock:
+                    strand.event(x=1)
+                    strand.event(x=0)
 
     def take_strand(self, strand, turns):
         with strand:

@@ -280,6 +280,91 @@ class Files(Case):
         self.refused("./left.stream: it is given twice", "left.stream", ".")
 
 
+def note(event, text="", process="left", **others):
+    fields = {"process": process, "event": event, "text": text, "place": "main.py:7", "clock": 1700000000.25}
+    return json.dumps({**fields, **others}, ensure_ascii=False).encode() + b"\n"
+
+
+class Notes(Case):
+    def test_of_a_stream_that_is_whole(self):
+        for notes in (b"", note(1, "\u2028") + note(2) + note(4), note(3)):
+            self.write("left.notes.jsonl", notes)
+            self.assertEqual(self.mended(WHOLE), (WHOLE, "left.stream: 4 events, whole\n"))
+            self.assertEqual(self.read("left.notes.jsonl.mended"), notes)
+            os.remove("left.notes.jsonl.mended")
+
+    def test_of_a_stream_that_was_cut_short(self):
+        self.write("left.notes.jsonl", note(1, "first") + note(2, "second \x1b") + note(3, "third") + note(4)[:-10])
+        _, says = self.mended(LEFT + b'{}\n{"send":"left-')
+        self.assertEqual(says, (
+            "left.stream: 1 events, mended:\n  line 3 was cut short and is dropped\n"
+            "  event 2 isn't in it, and its note is dropped: 'second \\x1b' at 'main.py:7'\n"
+            "  event 3 isn't in it, and its note is dropped: 'third' at 'main.py:7'\n"
+            "  line 4 of its notes was cut short and is dropped\n  the end line is added\n"))
+        self.assertEqual(self.read("left.notes.jsonl.mended"), note(1, "first"))
+
+    def test_many_that_were_cut(self):
+        self.write("left.notes.jsonl", b"".join(note(event, "x" * 1000) for event in range(1, 10_001)))
+        _, says = self.mended(LEFT)
+        self.assertIn("\n  notes of 9992 more events that aren't in it are dropped\n", says)
+        self.assertLess(len(says), 2000)
+        self.assertEqual(self.read("left.notes.jsonl.mended"), b"")
+
+    def test_a_cut_at_each_byte(self):
+        notes = note(1, "é\u2028") + note(2)
+        for size in range(len(notes)):
+            self.write("left.notes.jsonl", notes[:size])
+            _, says = self.mended(LEFT + b"{}\n{}\n")
+            whole = notes[:size].rpartition(b"\n")
+            self.assertEqual(self.read("left.notes.jsonl.mended"), whole[0] + whole[1])
+            self.assertEqual("of its notes was cut short" in says, whole[2] != b"")
+            os.remove("left.notes.jsonl.mended")
+
+    def test_what_is_refused(self):
+        self.write("left.stream", LEFT + b"{}\n{}\n")
+        for notes, line, why in (
+                (note(1) + b"{\n" + note(2), 2, "it isn't JSON in UTF-8"), (b"\xff\n", 1, "it isn't JSON in UTF-8"),
+                (b"[" * 100_000 + b"\n", 1, "it nests too deep"), (b"[]\n", 1, "this is no note of an event of left"),
+                (b"\n", 1, "it isn't JSON in UTF-8"), (note(1, process="right"), 1, "this is no note of an event of left"),
+                (note("1"), 1, "this is no note of an event of left"),
+                (note(True), 1, "this is no note of an event of left"),
+                (note(0), 1, "the note of event 0 stands after that of event 0"),
+                (note(2) + note(1), 2, "the note of event 1 stands after that of event 2"),
+                (b'{"event":1,"event":2,"process":"left"}\n', 1, "a field stands there twice")):
+            self.write("left.notes.jsonl", notes)
+            self.refused(f"left.notes.jsonl line {line}: {why}; without this file the stream is mended alone",
+                         "left.stream")
+        os.remove("left.notes.jsonl")
+        os.mkdir("left.notes.jsonl")
+        self.refused("left.notes.jsonl: this is no file", "left.stream")
+
+    def test_in_place_and_in_a_folder(self):
+        self.write("left.notes.jsonl", note(1) + note(2))
+        self.write("left.stream", LEFT + b"{}\n")
+        self.write("right.stream", b'{"process":"right"}\n{}\n{"end":true}\n')
+        self.write("right.notes.jsonl", note(1, process="right") + b"{")
+        self.assertEqual(self.run_with("--out", "mended", ".")[0], 0)
+        names = ["left.notes.jsonl", "left.stream", "right.notes.jsonl", "right.stream"]
+        self.assertEqual(sorted(os.listdir("mended")), names)
+        self.assertEqual(self.run_with("--in-place", "left.stream", "right.stream")[0], 0)
+        for name in names:
+            self.assertEqual(self.read(name), self.read(os.path.join("mended", name)))
+        self.assertEqual((self.read(names[0]), self.read(names[2])), (note(1), note(1, process="right")))
+
+    def test_of_incarnations(self):
+        self.write("left.stream", LEFT + b"{}\n")
+        self.write("left.notes.jsonl", note(1, "first") + note(2, "cut"))
+        self.write("left_2.stream", b'{"process":"left_2"}\n{"recv":"left-ended"}\n{}\n{"end":true}\n')
+        other = b'{ "event":2,"process":"left_2", "text":"\\u2028"}\n'
+        self.write("left_2.notes.jsonl", note(1, "again \u2028", process="left_2", clock=0.5) + other)
+        self.assertEqual(self.run_with("--one-process", "--out", "one", "left.stream", "left_2.stream")[0], 0)
+        self.assertEqual(sorted(os.listdir("one")), ["left.notes.jsonl", "left.stream"])
+        self.assertEqual(self.read("one/left.stream").count(b"\n"), 6)
+        self.assertEqual(self.read("one/left.notes.jsonl"),
+                         note(1, "first") + note(3, "again \u2028", clock=0.5)
+                         + b'{"event": 4, "process": "left", "text": "\\u2028"}\n')
+
+
 class Orphans(Case):
     def test_receipts_of_what_nobody_sends(self):
         lost = b'{"recv":"lost","set":{"x":1,"\xc3\xa9":2}}\n{"recv":"b"}\n'

@@ -589,6 +589,117 @@ class Ports(Case):
             self.assertEqual(theirs.makefile("rb").read(), b'{"process":"left"}\n{"end":true}\n')
 
 
+class Notes(StrandCase):
+    def setUp(self):
+        super().setUp()
+        self.folder = os.path.dirname(self.path)
+
+    def notes(self, name="left"):
+        """What the notes say, without their clocks, and the lines that are their places."""
+        with open(os.path.join(self.folder, f"{name}.notes.jsonl"), encoding="utf-8", newline="\n") as file:
+            notes = [json.loads(line) for line in file]
+        for number, note in enumerate(notes, 1):
+            self.assertEqual(list(note), ["process", "event", "text", "place", "clock"])
+            self.assertEqual((note["process"], note["event"]), (name, number))
+        return [(note["text"], lines_at(note["place"])) for note in notes]
+
+    def test_each_way_to_a_note(self):
+        async def task(strand):
+            async with strand:
+                strand.event(note="in a task")
+        with Recorder.to_file("left", self.path, notes=True) as left:
+            left.event(x=1, note="said")
+            left.event(note=5)
+            worker = left.strand("worker")
+            asyncio.run(task(worker))
+            left.join(worker, x=2, note="joined")
+            with left.strand("last"):
+                pass
+        self.assertEqual(self.notes(), [
+            ("said", 'left.event(x=1, note="said")'), ("", "left.event(note=5)"),
+            ("", 'worker = left.strand("worker")'), ("joined", 'left.join(worker, x=2, note="joined")'),
+            ("", 'with left.strand("last"):')])
+        self.assertEqual(self.notes("worker"), [
+            ("", 'worker = left.strand("worker")'), ("in a task", 'strand.event(note="in a task")'),
+            ("", "async with strand:")])
+        self.assertIn('{"set":{"note":5}}', self.text())
+
+    def test_a_text_is_no_variable_without_notes_either(self):
+        with Recorder.to_file("left", self.path, variables=["x"]) as left:
+            left.event(x=1, note="said")
+            self.refused("has no variable note", left.event, note=5)
+        self.assertEqual(self.text(), '{"process":"left"}\n{"set":{"x":1}}\n{"end":true}\n')
+        self.assertEqual(os.listdir(self.folder), ["left.stream"])
+
+    def test_halves_of_pairs_and_long_files(self):
+        with Recorder.to_file("left", self.path, notes=True) as left:
+            left.event(note="a\ud800b\udfff" + "\ud83d\ude00"[:1])
+            exec(compile("left.event()", "f\n" + "x" * 2000, "exec"), {"left": left})
+        with open(self.path.replace(".stream", ".notes.jsonl"), encoding="utf-8") as file:
+            first, second = [json.loads(line) for line in file]
+        self.assertEqual(first["text"], "a\ufffdb\ufffd\ufffd")
+        self.assertEqual(second["place"], "f\n" + "x" * 1022 + ":1")
+
+    def test_a_port_and_other_files_have_no_place(self):
+        for path in (self.path + "s", self.folder, os.path.join(self.folder, "left")):
+            with self.assertRaisesRegex(NotRecorded, "doesn't end with .stream"):
+                Recorder.to_file("left", path, notes=True)
+        self.assertEqual(os.listdir(self.folder), [])
+
+    def test_the_environment(self):
+        place = os.path.join(self.folder, "new")
+        for wanted in ("1", "0", "", None):
+            with mock.patch.dict(os.environ, {"MONITOR_TO": place, "MONITOR_NOTES": wanted or ""}):
+                if wanted is None:
+                    del os.environ["MONITOR_NOTES"]
+                with Recorder.from_environment("left", replace=True) as left:
+                    left.event()
+            self.assertEqual(sorted(os.listdir(place)), ["left.notes.jsonl"] * (wanted == "1") + ["left.stream"])
+        for wanted, at, text in (("1", ":7411", "MONITOR_TO is the port :7411"), ("yes", place, "MONITOR_NOTES is 'yes'"),
+                                 ("yes", ":7411", "MONITOR_NOTES is 'yes'")):
+            with mock.patch.dict(os.environ, {"MONITOR_TO": at, "MONITOR_NOTES": wanted}):
+                with self.assertRaisesRegex(NotRecorded, text):
+                    Recorder.from_environment("other")
+
+    def test_notes_that_are_there_are_kept(self):
+        there = os.path.join(self.folder, "left.notes.jsonl")
+        with open(there, "w", encoding="utf-8") as file:
+            file.write("mine")
+        with self.assertRaisesRegex(FileExistsError, "isn't written over.*left.notes.jsonl"):
+            Recorder.to_file("left", self.path, notes=True)
+        self.assertEqual(os.listdir(self.folder), ["left.notes.jsonl"])
+        Recorder.to_file("left", self.path).close()
+        with open(there, encoding="utf-8") as file:
+            self.assertEqual(file.read(), "mine")
+        Recorder.to_file("left", self.path, replace=True).close()
+        self.assertEqual(os.listdir(self.folder), ["left.stream"])
+
+    def test_after_a_note_that_could_not_be_written_nothing_is(self):
+        os.symlink("/dev/full", os.path.join(self.folder, "left.notes.jsonl"))
+        left = Recorder.to_file("left", self.path, notes=True, replace=True)
+        with self.assertRaises(OSError):
+            left.event()
+        self.refused("is broken off", left.event)
+        self.assertEqual((left.events, self.text()), (0, '{"process":"left"}\n'))
+        left.abandon()
+
+    def test_incarnations(self):
+        for number in range(2):
+            left = Recorder.to_file("left", self.path, again=True, notes=True)
+            left.event(note=f"run {number}")
+            left.abandon()
+        self.assertEqual([text for text, _ in self.notes()], ["run 0"])
+        self.assertEqual([text for text, _ in self.notes("left_2")], ["", "run 1"])
+
+
+def lines_at(place):
+    """The line of this file that is the place."""
+    file, _, number = place.rpartition(":")
+    assert os.path.samefile(file, __file__)
+    with open(file, encoding="utf-8") as lines:
+        return lines.read().split("\n")[int(number) - 1].strip()
+
+
 class Limits(unittest.TestCase):
     """The limits of each recorder, of the importers and of monitor_mend are those of the definitions."""
 
@@ -601,12 +712,14 @@ class Limits(unittest.TestCase):
               "rust/src/lib.rs": (r"^pub const {}: usize = ([\d_]+);$", "EVENT_LIMIT")}
     NAMES = {"event_limit": ("EVENT_LIMIT", "EventLimit"), "var_limit": ("VARIABLE_LIMIT", "VariableLimit"),
              "process_limit": ("PROCESS_LIMIT", "ProcessLimit"),
-             "name_byte_limit": ("NAME_BYTE_LIMIT", "NameByteLimit"), "id_byte_limit": ("ID_BYTE_LIMIT", "IDByteLimit")}
+             "name_byte_limit": ("NAME_BYTE_LIMIT", "NameByteLimit"), "id_byte_limit": ("ID_BYTE_LIMIT", "IDByteLimit"),
+             "note_byte_limit": ("NOTE_BYTE_LIMIT", "NoteByteLimit")}
 
     def setUp(self):
         with open(os.path.join(FOLDER, "..", "..", "crates", "def_format", "specs", "Limits.antt"),
                   encoding="utf-8") as file:
             self.limits = {name: int(number) for name, number in re.findall(r"^(\w+) = (\d+)$", file.read(), re.M)}
+        self.limits["note_byte_limit"] = 1_024  # of which the monitor doesn't know
 
     def test_of_python(self):
         for limit, (name, _) in self.NAMES.items():

@@ -21,6 +21,8 @@ var (
 	recorder  *record.Recorder
 	recorders map[string]*record.Recorder // the recorder of the process and those of its strands, by their names
 
+	said []record.Setting // the note of the call, if it has one
+
 	// What goroutines share, by its names.
 	mutexes  map[string]*record.Mutex
 	channels map[string]chan record.Carried[string]
@@ -70,9 +72,13 @@ func answer(given string, err error) string {
 func makeCall(call string, words []string) (given string, err error) {
 	switch call {
 	case "file":
-		recorder, err = record.ToFile(textOf(words[0]), textOf(words[1]))
-		recorders = map[string]*record.Recorder{words[0]: recorder}
-		mutexes, channels = map[string]*record.Mutex{}, map[string]chan record.Carried[string]{}
+		err = openFile(words[0], words[1], record.Options{})
+	case "noted":
+		err = openFile(words[0], words[1], record.Options{Notes: true})
+	case "replaced":
+		err = openFile(words[0], words[1], record.Options{Replace: true})
+	case "note":
+		return callNoted(words[0], words[1], words[2:])
 	case "strand":
 		err = begin(words[0])
 	case "in":
@@ -89,6 +95,8 @@ func makeCall(call string, words []string) (given string, err error) {
 		if recorder != nil {
 			err = recorder.Close()
 		}
+	case "locked", "unlocked":
+		err = contend(int(numberOf(words[0])), int(numberOf(words[1])), call == "locked")
 	case "threads":
 		err = takeTurns(int(numberOf(words[0])), int(numberOf(words[1])))
 	case "flood":
@@ -99,6 +107,13 @@ func makeCall(call string, words []string) (given string, err error) {
 		return recordCall(call, words)
 	}
 	return given, err
+}
+
+func openFile(process, path string, options record.Options) (err error) {
+	recorder, err = options.ToFile(textOf(process), textOf(path))
+	recorders = map[string]*record.Recorder{process: recorder}
+	mutexes, channels = map[string]*record.Mutex{}, map[string]chan record.Carried[string]{}
+	return err
 }
 
 func openPort(process string, port int, seconds string) (err error) {
@@ -140,6 +155,13 @@ func share(call, name string) error {
 	return err
 }
 
+// callNoted makes the call with a text for its note.
+func callNoted(text, call string, words []string) (string, error) {
+	said = []record.Setting{record.Note(textOf(text))}
+	defer func() { said = nil }()
+	return makeCall(call, words)
+}
+
 // callIn makes the call by the recorder of a strand.
 func callIn(name, call string, words []string) (string, error) {
 	process := recorder
@@ -156,7 +178,7 @@ func recordCall(call string, words []string) (string, error) {
 	if call == "send-as" || call == "receive" || call == "join" {
 		id, words = textOf(words[0]), words[1:]
 	}
-	var settings []record.Setting
+	settings := said
 	for _, word := range words {
 		setting, ok := settingOf(word)
 		if !ok {
@@ -242,6 +264,43 @@ func takeTurns(count, turns int) error {
 }
 
 func takeStrands(count, turns int) error {
+	return withStrands(count, func(strand *record.Recorder) error {
+		for turn := 0; turn < turns; turn++ {
+			if err := strand.Event(record.Set("x", turn)); err != nil {
+				return err
+			}
+		}
+		return nil
+	})
+}
+
+// contend has strands go inside by turns, by a mutex if there is one.
+func contend(count, turns int, isLocked bool) error {
+	var mutex record.Mutex
+	goInside := func(strand *record.Recorder) error {
+		if isLocked {
+			if err := mutex.Lock(strand); err != nil {
+				return err
+			}
+			defer mutex.Unlock(strand)
+		}
+		if err := strand.Event(record.Set("x", 1)); err != nil {
+			return err
+		}
+		return strand.Event(record.Set("x", 0))
+	}
+	return withStrands(count, func(strand *record.Recorder) error {
+		for turn := 0; turn < turns; turn++ {
+			if err := goInside(strand); err != nil {
+				return err
+			}
+		}
+		return nil
+	})
+}
+
+// withStrands runs a goroutine for each of so many strands, and joins them.
+func withStrands(count int, work func(strand *record.Recorder) error) error {
 	strands := make([]*record.Recorder, count)
 	for number := range strands {
 		strand, err := recorder.Strand(fmt.Sprint("strand", number))
@@ -251,10 +310,8 @@ func takeStrands(count, turns int) error {
 		strands[number] = strand
 	}
 	err := run(count, func(number int) error {
-		for turn := 0; turn < turns; turn++ {
-			if err := strands[number].Event(record.Set("x", turn)); err != nil {
-				return err
-			}
+		if err := work(strands[number]); err != nil {
+			return err
 		}
 		return strands[number].End()
 	})

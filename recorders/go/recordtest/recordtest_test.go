@@ -183,7 +183,7 @@ func TestRecorders(t *testing.T) {
 		Recorder(run, "left", record.ToFile)
 		Recorder(run, "left", record.ToFile)
 	})
-	if text != "open RUN/left.stream: file exists" || !stays {
+	if !strings.HasPrefix(text, "open RUN/left.stream: file exists: a recording isn't written over") || !stays {
 		t.Errorf("there is %s", text)
 	}
 }

@@ -17,9 +17,11 @@ import java.nio.file.FileAlreadyExistsException;
 import java.nio.file.Files;
 import java.nio.file.Path;
 import java.time.Duration;
+import java.time.Instant;
 import java.util.ArrayList;
 import java.util.HashSet;
 import java.util.List;
+import java.util.Locale;
 import java.util.Set;
 import java.util.StringJoiner;
 import java.util.regex.Matcher;
@@ -64,6 +66,10 @@ import java.util.regex.Pattern;
  * recorder.join(worker);                                // AFTER the thread has been waited for
  * }</pre>
  *
+ * <p>Events have no names. With {@link Option#NOTES} each has a note in left.notes.jsonl, of the line of the program that
+ * recorded it, and of a text if one is given, as by
+ * {@code recorder.event(set("inside", 1), note("the lock is ours"))}.
+ *
  * <p>Opening a recording throws {@link IOException}. A line that can't be written throws {@link UncheckedIOException},
  * so that a method needs no other signature to record.
  */
@@ -78,6 +84,8 @@ public final class Recorder implements AutoCloseable {
     public static final int NAME_BYTE_LIMIT = 32;
     /** At most so many bytes of UTF-8 has the id of a message, and at least one. */
     public static final int ID_BYTE_LIMIT = 64;
+    /** At most so many bytes of UTF-8 has a note of its text, and of its place's file: what is longer is cut. */
+    public static final int NOTE_BYTE_LIMIT = 1_024;
 
     private static final Pattern NAME = Pattern.compile("[A-Za-z_][A-Za-z0-9_]*");
     private static final Set<String> RESERVED = Set.of("and", "or", "not", "true", "false");
@@ -85,6 +93,20 @@ public final class Recorder implements AutoCloseable {
     private static final long PAUSE_MILLISECONDS = 50;
     private static final Pattern PORT = Pattern.compile("(?:localhost|127\\.0\\.0\\.1)?:([0-9]{1,5})");
     private static final int PORT_LIMIT = 65_534;
+    private static final String ENDING = ".stream";
+    private static final String NOTES_ENDING = ".notes.jsonl";
+    private static final String OWN = Recorder.class.getPackageName() + ".Record";
+
+    /** How a file is recorded to. */
+    public enum Option {
+        /**
+         * Each event gets a note, in a file beside: that of {@code left.stream} is {@code left.notes.jsonl}. The path
+         * has to end with {@code .stream} then. docs/RECORDING.md has the format.
+         */
+        NOTES,
+        /** A file that is there already is lost, with its notes. */
+        REPLACE
+    }
 
     /** Why a call was refused. */
     public enum Reason {
@@ -113,7 +135,9 @@ public final class Recorder implements AutoCloseable {
         /** What is to be joined is no strand that has ended. */
         NOT_ENDED,
         /** MONITOR_TO isn't set, or is a port that there isn't. */
-        PLACE
+        PLACE,
+        /** There is no place for notes, as at a port, or MONITOR_NOTES is neither 1 nor 0. */
+        NOTES
     }
 
     /** A call was refused and wrote nothing: its message says why. */
@@ -132,12 +156,31 @@ public final class Recorder implements AutoCloseable {
         }
     }
 
+    /** What is said of an event. */
+    public sealed interface Detail permits Setting, Note {
+    }
+
     /** A variable and the value that it has from now on. */
-    public record Setting(String name, long value) {
+    public record Setting(String name, long value) implements Detail {
+    }
+
+    /** The text of the event's note, if the events have notes; of several the last one. */
+    public record Note(String text) implements Detail {
+    }
+
+    /** What is written to; the notes are null if events have none. */
+    private record Opened(OutputStream out, OutputStream notes) {
+        void close() throws IOException {
+            try (out) {
+                if (notes != null) {
+                    notes.close();
+                }
+            }
+        }
     }
 
     private interface Place {
-        OutputStream opened(String name) throws IOException;
+        Opened opened(String name) throws IOException;
     }
 
     private interface Ending {
@@ -146,6 +189,8 @@ public final class Recorder implements AutoCloseable {
 
     private final String process;
     private final OutputStream out;
+    /** Where the notes of the events are written; null if they have none. */
+    private final OutputStream notes;
     private final Family family;
     private final boolean isStrand;
     private final Set<String> ids = new HashSet<>();
@@ -162,31 +207,81 @@ public final class Recorder implements AutoCloseable {
      * the recorder.
      */
     public Recorder(String process, OutputStream out) throws IOException {
-        this(process, out, null);
+        this(process, new Opened(out, null), null);
     }
 
-    private Recorder(String process, OutputStream out, Family family) throws IOException {
+    private Recorder(String process, Opened opened, Family family) throws IOException {
         this.process = checkedProcess(process);
-        this.out = out;
+        this.out = opened.out();
+        this.notes = opened.notes();
         this.isStrand = family != null;
         this.family = isStrand ? family : new Family(process);
         out.write(bytesOf("{\"process\":" + quoted(process) + "}"));
         out.flush();
     }
 
-    /** Records to a new file. One that is there already is a {@link FileAlreadyExistsException}. */
-    public static Recorder toFile(String process, Path path) throws IOException {
+    /**
+     * Records to a new file. One that is there already is a {@link FileAlreadyExistsException}, unless it is to be
+     * replaced.
+     */
+    public static Recorder toFile(String process, Path path, Option... options) throws IOException {
         checkedProcess(process);
-        Recorder recorder = over(process, newFile(path), null);
+        Set<Option> all = Set.copyOf(List.of(options));
         Path first = path.toAbsolutePath();
-        recorder.family.place = name -> newFile(first.resolveSibling(name + ".stream"));
+        if (all.contains(Option.NOTES) && !first.toString().endsWith(ENDING)) {
+            throw refused(Reason.NOTES, path + " doesn't end with " + ENDING + ": notes of left" + ENDING
+                    + " are in left" + NOTES_ENDING);
+        }
+        Recorder recorder = over(process, newFiles(first, all), null);
+        recorder.family.place = name -> newFiles(checkedBeside(first, name, all), all);
         return recorder;
     }
 
-    private static OutputStream newFile(Path path) throws IOException {
+    /** The file of a strand, in the folder of its process's file, which isn't replaced. */
+    private static Path checkedBeside(Path first, String name, Set<Option> options) throws IOException {
+        Path path = first.resolveSibling(name + ENDING);
+        if (options.contains(Option.REPLACE) && Files.exists(path) && Files.isSameFile(path, first)) {
+            throw already(path);
+        }
+        return path;
+    }
+
+    /** Opens the files of a recording. What it replaces has no notes any more. */
+    private static Opened newFiles(Path path, Set<Option> options) throws IOException {
+        boolean replaces = options.contains(Option.REPLACE);
+        String name = path.getFileName().toString();
+        OutputStream out = newFile(path, replaces);
+        try {
+            if (!name.endsWith(ENDING)) {
+                return new Opened(out, null);
+            }
+            String stem = name.substring(0, name.length() - ENDING.length());
+            Path beside = path.resolveSibling(stem + NOTES_ENDING);
+            if (options.contains(Option.NOTES)) {
+                return new Opened(out, newFile(beside, replaces));
+            }
+            if (replaces) {
+                Files.deleteIfExists(beside);
+            }
+            return new Opened(out, null);
+        } catch (Throwable error) {
+            out.close();
+            if (!replaces) {
+                Files.delete(path);
+            }
+            throw error;
+        }
+    }
+
+    private static FileAlreadyExistsException already(Path path) {
+        return new FileAlreadyExistsException(path.toString(), null, "a recording isn't written over: record to "
+                + "another file or folder, remove it, or give Option.REPLACE");
+    }
+
+    private static OutputStream newFile(Path path, boolean replaces) throws IOException {
         File file = path.toFile();
-        if (!file.createNewFile()) {
-            throw new FileAlreadyExistsException(path.toString());
+        if (!replaces && !file.createNewFile()) {
+            throw already(path);
         }
         // A channel would be closed if a thread is interrupted while it records.
         return new FileOutputStream(file);
@@ -204,23 +299,34 @@ public final class Recorder implements AutoCloseable {
     /** The same, with another time to wait for somebody who listens. */
     public static Recorder toPort(String process, int port, Duration patience) throws IOException {
         checkedProcess(process);
-        Recorder recorder = over(process, connectionTo(port, patience).getOutputStream(), null);
-        recorder.family.place = name -> connectionTo(port, patience).getOutputStream();
+        Place place = name -> new Opened(connectionTo(port, patience).getOutputStream(), null);
+        Recorder recorder = over(process, place.opened(process), null);
+        recorder.family.place = place;
         return recorder;
     }
 
     /**
      * Records to where MONITOR_TO in the environment says, so that no code changes between a test and a live session:
      * to a new file {@code NAME.stream} in a folder of this name, which is made if there is none; or to {@code monitor
-     * serve} on a port of this machine, of {@code :7411} or {@code localhost:7411}.
+     * serve} on a port of this machine, of {@code :7411} or {@code localhost:7411}. With MONITOR_NOTES=1 each event gets
+     * a note beside the file; a port has no place for notes, so the two together are refused.
      */
-    public static Recorder fromEnvironment(String process) throws IOException {
-        String place = System.getenv("MONITOR_TO");
-        return toPlace(process, place == null ? "" : place);
+    public static Recorder fromEnvironment(String process, Option... options) throws IOException {
+        String place = System.getenv().getOrDefault("MONITOR_TO", "");
+        String notes = System.getenv().getOrDefault("MONITOR_NOTES", "");
+        if (!Set.of("", "0", "1").contains(notes)) {
+            throw refused(Reason.NOTES,
+                    "MONITOR_NOTES is \"" + notes + "\", and is 1 if events are to have notes, or else 0");
+        }
+        List<Option> all = new ArrayList<>(List.of(options));
+        if (notes.equals("1")) {
+            all.add(Option.NOTES);
+        }
+        return toPlace(process, place, all.toArray(Option[]::new));
     }
 
     /** The same, of a place that is given. */
-    public static Recorder toPlace(String process, String place) throws IOException {
+    public static Recorder toPlace(String process, String place, Option... options) throws IOException {
         checkedProcess(process);
         Matcher matcher = PORT.matcher(place);
         int port = matcher.matches() ? Integer.parseInt(matcher.group(1)) : 1;
@@ -228,17 +334,21 @@ public final class Recorder implements AutoCloseable {
             throw new NotRecordedException(Reason.PLACE, "MONITOR_TO is \"" + place
                 + "\", and names a folder, or a port from 1 to " + PORT_LIMIT + " as :7411");
         }
+        if (matcher.matches() && List.of(options).contains(Option.NOTES)) {
+            throw refused(Reason.NOTES, "notes go to a file beside the stream, but MONITOR_TO is the port " + place
+                    + ": unset MONITOR_NOTES, or let MONITOR_TO name a folder");
+        }
         if (matcher.matches()) {
             return toPort(process, port);
         }
-        return toFile(process, Files.createDirectories(Path.of(place)).resolve(process + ".stream"));
+        return toFile(process, Files.createDirectories(Path.of(place)).resolve(process + ENDING), options);
     }
 
-    private static Recorder over(String process, OutputStream out, Family family) throws IOException {
+    private static Recorder over(String process, Opened opened, Family family) throws IOException {
         try {
-            return new Recorder(process, out, family);
+            return new Recorder(process, opened, family);
         } catch (Throwable error) {
-            out.close();
+            opened.close();
             throw error;
         }
     }
@@ -253,14 +363,19 @@ public final class Recorder implements AutoCloseable {
         return new Setting(name, value ? 1 : 0);
     }
 
+    /** The text of the event's note, for {@code import static}. */
+    public static Note note(String text) {
+        return new Note(text);
+    }
+
     /**
      * Something happened in this process; these variables have these values from now on.
      *
      * @throws NotRecordedException if it is refused: nothing is written then
      * @throws UncheckedIOException if the line can't be written: a part of it may have been
      */
-    public synchronized void event(Setting... settings) {
-        record(null, null, settings);
+    public synchronized void event(Detail... details) {
+        record(null, null, details);
     }
 
     /**
@@ -272,9 +387,9 @@ public final class Recorder implements AutoCloseable {
      * @throws NotRecordedException if it is refused: nothing is written then
      * @throws UncheckedIOException if the line can't be written: a part of it may have been
      */
-    public synchronized String send(Setting... settings) {
+    public synchronized String send(Detail... details) {
         checkRoom();
-        return sendAny(settings);
+        return sendAny(details);
     }
 
     /**
@@ -283,8 +398,8 @@ public final class Recorder implements AutoCloseable {
      * @throws NotRecordedException if it is refused: nothing is written then
      * @throws UncheckedIOException if the line can't be written: a part of it may have been
      */
-    public synchronized void sendAs(String id, Setting... settings) {
-        record("send", checkedId(id), settings);
+    public synchronized void sendAs(String id, Detail... details) {
+        record("send", checkedId(id), details);
     }
 
     /**
@@ -294,8 +409,8 @@ public final class Recorder implements AutoCloseable {
      *     is written then
      * @throws UncheckedIOException if the line can't be written: a part of it may have been
      */
-    public synchronized void receive(String id, Setting... settings) {
-        record("recv", checkedId(id), settings);
+    public synchronized void receive(String id, Detail... details) {
+        record("recv", checkedId(id), details);
     }
 
     /**
@@ -328,13 +443,13 @@ public final class Recorder implements AutoCloseable {
      * @throws NotRecordedException if it is refused, as {@link Reason#NOT_ENDED}: nothing is written then
      * @throws UncheckedIOException if the line can't be written: a part of it may have been
      */
-    public synchronized void join(Recorder strand, Setting... settings) {
+    public synchronized void join(Recorder strand, Detail... details) {
         checkRoom();
         if (strand == null || strand.last == null) {
             throw refused(Reason.NOT_ENDED, (strand == null ? "null" : strand.process)
                     + " is no strand that has ended: wait for it, and then join it");
         }
-        record("recv", strand.last, settings);
+        record("recv", strand.last, details);
     }
 
     /** The name of the process, or of the strand, that is recorded. */
@@ -393,7 +508,7 @@ public final class Recorder implements AutoCloseable {
         if (sendsLast) {
             last = sendAny();
         }
-        write("{\"end\":true}");
+        write(out, "{\"end\":true}");
         closeOut();
     }
 
@@ -411,7 +526,7 @@ public final class Recorder implements AutoCloseable {
     private synchronized void closeOut() {
         ended = true;
         try {
-            out.close();
+            new Opened(out, notes).close();
         } catch (IOException error) {
             throw new UncheckedIOException(error);
         }
@@ -475,20 +590,20 @@ public final class Recorder implements AutoCloseable {
         }
     }
 
-    private String sendAny(Setting... settings) {
+    private String sendAny(Detail... details) {
         int number = made + 1;
         while (ids.contains(process + "-" + number)) {
             number++;
         }
-        put("send", process + "-" + number, settings);
+        put("send", process + "-" + number, details);
         made = number;
         return process + "-" + number;
     }
 
     /** Checks an event and writes its line; the field is null for an event without a message. */
-    private void record(String field, String id, Setting... settings) {
+    private void record(String field, String id, Detail... details) {
         checkRoom();
-        put(field, id, settings);
+        put(field, id, details);
     }
 
     /** One of a strand's events is kept for its end. */
@@ -500,13 +615,16 @@ public final class Recorder implements AutoCloseable {
         }
     }
 
-    /** Checks the message and the variables of an event, and writes its line. */
-    private void put(String field, String id, Setting... settings) {
+    /** Checks the message and the variables of an event, and writes its note, if it has one, and its line. */
+    private void put(String field, String id, Detail... details) {
         if (id != null && ids.contains(id)) {
             throw refused(Reason.ID_TWICE, process + " has sent or received " + quoted(id) + " before");
         }
-        Set<String> added = checkedNames(settings);
-        write(lineOf(field, id, settings));
+        Set<String> added = checkedNames(details);
+        if (notes != null) {
+            write(notes, noteOf(details));
+        }
+        write(out, lineOf(field, id, details));
         events++;
         names.addAll(added);
         if (id != null) {
@@ -523,9 +641,13 @@ public final class Recorder implements AutoCloseable {
         }
     }
 
-    private Set<String> checkedNames(Setting... settings) {
+    private Set<String> checkedNames(Detail... details) {
         Set<String> added = new HashSet<>();
-        for (Setting setting : settings) {
+        for (Detail detail : details) {
+            if (detail instanceof Note) {
+                continue;
+            }
+            Setting setting = (Setting) detail;
             if (!isName(setting.name()) || !added.add(setting.name())) {
                 throw refused(Reason.VARIABLE_NAME, setting.name() + " is no name of a variable, or stands twice");
             }
@@ -539,12 +661,12 @@ public final class Recorder implements AutoCloseable {
     }
 
     /** Hands the line to the system. If that fails, nothing more is written later. */
-    private void write(String line) {
+    private void write(OutputStream to, String line) {
         // With the limits above no line has over 1,400 bytes, and no stream over 14,000,000: monitor takes more.
         broken = true;
         try {
-            out.write(bytesOf(line));
-            out.flush();
+            to.write(bytesOf(line));
+            to.flush();
         } catch (IOException error) {
             throw new UncheckedIOException(error);
         }
@@ -555,19 +677,79 @@ public final class Recorder implements AutoCloseable {
         return (line + "\n").getBytes(StandardCharsets.UTF_8);
     }
 
-    private static String lineOf(String field, String id, Setting... settings) {
+    private static String lineOf(String field, String id, Detail... details) {
         StringJoiner fields = new StringJoiner(",", "{", "}");
         if (field != null) {
             fields.add(quoted(field) + ":" + quoted(id));
         }
-        if (settings.length > 0) {
-            StringJoiner pairs = new StringJoiner(",", "{", "}");
-            for (Setting setting : settings) {
+        StringJoiner pairs = new StringJoiner(",", "\"set\":{", "}").setEmptyValue("");
+        for (Detail detail : details) {
+            if (detail instanceof Setting setting) {
                 pairs.add(quoted(setting.name()) + ":" + setting.value());
             }
-            fields.add("\"set\":" + pairs);
+        }
+        if (pairs.length() > 0) {
+            fields.add(pairs.toString());
         }
         return fields.toString();
+    }
+
+    /** The note of the event whose line is written next: so each event that a stream has has its note. */
+    private String noteOf(Detail... details) {
+        String text = "";
+        for (Detail detail : details) {
+            text = detail instanceof Note note ? note.text() : text;
+        }
+        Instant now = Instant.now();
+        return "{\"process\": \"" + process + "\", \"event\": " + (events + 1) + ", \"text\": " + escaped(bounded(text))
+                + ", \"place\": " + escaped(placeOfCaller())
+                + String.format(Locale.ROOT, ", \"clock\": %d.%06d}", now.getEpochSecond(), now.getNano() / 1000);
+    }
+
+    /** FILE:LINE of the code that has called into this package, or no text. */
+    private static String placeOfCaller() {
+        return StackWalker.getInstance().walk(frames -> frames.filter(Recorder::isOfOthers).findFirst())
+                .map(frame -> bounded(String.valueOf(frame.getFileName())) + ":" + frame.getLineNumber()).orElse("");
+    }
+
+    private static boolean isOfOthers(StackWalker.StackFrame frame) {
+        String name = frame.getClassName();
+        return !name.startsWith(OWN) && !name.startsWith("java.") && !name.startsWith("jdk.");
+    }
+
+    /** The text with U+FFFD for each half of a pair of surrogates, and cut if it is too long. */
+    private static String bounded(String text) {
+        StringBuilder kept = new StringBuilder();
+        int bytes = 0;
+        int place = 0;
+        while (place < text.length()) {
+            int found = text.codePointAt(place);
+            int point = Character.getType(found) == Character.SURROGATE ? 0xfffd : found;
+            bytes += point < 0x80 ? 1 : point < 0x800 ? 2 : point < 0x10000 ? 3 : 4;
+            if (bytes > NOTE_BYTE_LIMIT) {
+                break;
+            }
+            kept.appendCodePoint(point);
+            place += Character.charCount(found);
+        }
+        return kept.toString();
+    }
+
+    /**
+     * The text as JSON has it between quotes. Besides what JSON escapes these are: a terminal takes some for commands,
+     * and what reads lines others for their ends.
+     */
+    private static String escaped(String text) {
+        StringBuilder escaped = new StringBuilder();
+        for (char character : quoted(text).toCharArray()) {
+            boolean isControl = character >= 0x7f && character <= 0x9f;
+            if (isControl || character == '\u2028' || character == '\u2029') {
+                escaped.append(String.format("\\u%04x", (int) character));
+            } else {
+                escaped.append(character);
+            }
+        }
+        return escaped.toString();
     }
 
     /** The text as JSON has it between quotes: as short as it can be. */

@@ -1,20 +1,24 @@
 //! Makes the calls that it is told on its standard input, with the recorder for Rust: see recorders/cases/README.md.
-use monitor_recorder::{Error, Recorder, Setting};
+use monitor_recorder::{Error, Options, Recorder, Setting};
 use std::collections::HashMap;
 use std::io::{self, BufRead, Write};
 use std::sync::Mutex;
 use std::thread;
 use std::time::Duration;
 
-/// The strands of the process, by their names.
-type Strands = HashMap<String, Recorder>;
+/// The strands of the process, by their names, and the text of the call's note.
+#[derive(Default)]
+struct Strands {
+    recorders: HashMap<String, Recorder>,
+    said: String,
+}
 
 /// What a call came to: an answer that begins with `recorded`, or an error.
 type Made = Result<String, Error>;
 
 fn main() -> io::Result<()> {
     let mut recorder = None;
-    let mut strands = HashMap::new();
+    let mut strands = Strands::default();
     for line in io::stdin().lock().lines() {
         let line = line?;
         let words: Vec<&str> = line.split(' ').collect();
@@ -61,11 +65,14 @@ fn make(
     words: &[&str],
 ) -> Option<Made> {
     match call {
-        "file" => {
-            strands.clear();
+        "file" | "noted" | "replaced" => {
+            *strands = Strands::default();
+            let options = Options::new()
+                .notes(call == "noted")
+                .replace(call == "replaced");
             return Some(opened(
                 recorder,
-                Recorder::to_file(&text_of(words[0]), text_of(words[1])),
+                options.to_file(&text_of(words[0]), text_of(words[1])),
             ));
         }
         "port" => {
@@ -81,9 +88,9 @@ fn make(
             return Some(Ok(String::new()));
         }
         "in" => {
-            let strand = strands.remove(words[0])?;
+            let strand = strands.recorders.remove(words[0])?;
             let made = make_open(&strand, strands, words[1], &words[2..]);
-            strands.insert(words[0].to_owned(), strand);
+            strands.recorders.insert(words[0].to_owned(), strand);
             return made;
         }
         _ => (),
@@ -99,8 +106,14 @@ fn make_open(
     words: &[&str],
 ) -> Option<Made> {
     match call {
+        "note" => {
+            strands.said = text_of(words[0]);
+            let made = make_open(recorder, strands, words[1], &words[2..]);
+            strands.said.clear();
+            made
+        }
         "strand" => Some(recorder.strand(&text_of(words[0])).map(|strand| {
-            strands.insert(words[0].to_owned(), strand);
+            strands.recorders.insert(words[0].to_owned(), strand);
             String::new()
         })),
         "join" => Some(join(recorder, strands, words).map(nothing)),
@@ -109,7 +122,7 @@ fn make_open(
         "end" => Some(recorder.end().map(nothing)),
         "threads" => Some(threads(recorder, number(words[0]), number(words[1])).map(nothing)),
         "flood" => Some(flood(recorder, number(words[0])).map(nothing)),
-        _ => record(recorder, call, words),
+        _ => record(recorder, &strands.said, call, words),
     }
 }
 
@@ -119,7 +132,11 @@ fn join(recorder: &Recorder, strands: &Strands, words: &[&str]) -> Result<(), Er
         .iter()
         .map(|(name, value)| (name.as_str(), *value))
         .collect();
-    recorder.join(strands.get(words[0]).unwrap_or(recorder), &settings)
+    let strand = strands.recorders.get(words[0]).unwrap_or(recorder);
+    if strands.said.is_empty() {
+        return recorder.join(strand, &settings);
+    }
+    recorder.noted(&strands.said).join(strand, &settings)
 }
 
 fn nothing((): ()) -> String {
@@ -135,8 +152,11 @@ fn opened(place: &mut Option<Recorder>, made: Result<Recorder, Error>) -> Made {
     Ok(String::new())
 }
 
-fn record(recorder: &Recorder, call: &str, words: &[&str]) -> Option<Made> {
-    if matches!(call, "send-text" | "lock" | "unlock" | "put" | "take") {
+fn record(recorder: &Recorder, said: &str, call: &str, words: &[&str]) -> Option<Made> {
+    if matches!(
+        call,
+        "send-text" | "lock" | "unlock" | "put" | "take" | "locked" | "unlocked"
+    ) {
         return None; // `send` takes settings alone, and no lock or channel is recorded
     }
     let has_id = matches!(call, "send-as" | "receive");
@@ -150,6 +170,15 @@ fn record(recorder: &Recorder, call: &str, words: &[&str]) -> Option<Made> {
         .iter()
         .map(|(name, value)| (name.as_str(), *value))
         .collect();
+    if !said.is_empty() {
+        let noted = recorder.noted(said);
+        return Some(match call {
+            "event" => noted.event(&settings).map(nothing),
+            "send" => noted.send(&settings),
+            "send-as" => noted.send_as(&id, &settings).map(nothing),
+            _ => noted.receive(&id, &settings).map(nothing),
+        });
+    }
     Some(match call {
         "event" => recorder.event(&settings).map(nothing),
         "send" => recorder.send(&settings),
@@ -209,9 +238,7 @@ fn take_strands(recorder: &Recorder, count: i64, turns: i64) -> Result<(), Error
         .collect::<Result<Vec<_>, _>>()?;
     run(count, |thread| {
         let strand = &strands[usize::try_from(thread).expect("a thread's number")];
-        for turn in 0..turns {
-            strand.event(&[("x", turn)])?;
-        }
+        (0..turns).try_for_each(|turn| strand.event(&[("x", turn)]))?;
         strand.end()
     })?;
     strands

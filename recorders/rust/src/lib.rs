@@ -38,17 +38,21 @@
 //! # Ok(())
 //! # }
 //! ```
+//!
+//! Events have no names. With [`Options::notes`] each has a note in left.notes.jsonl, of the line of the program that
+//! recorded it, and of a text if one is given, as by `left.noted("the lock is ours").event(&[("inside", 1)])`.
 use std::collections::HashSet;
 use std::env;
 use std::fmt;
 use std::fs::{self, File, OpenOptions};
 use std::io::{self, Write};
 use std::net::{Ipv4Addr, TcpStream};
+use std::panic::Location;
 use std::path::{Path, PathBuf};
 use std::process;
 use std::sync::{Arc, Mutex, MutexGuard, PoisonError};
 use std::thread;
-use std::time::{Duration, Instant};
+use std::time::{Duration, Instant, SystemTime, UNIX_EPOCH};
 
 /// At most so many events has a process.
 pub const EVENT_LIMIT: usize = 10_000;
@@ -60,11 +64,15 @@ pub const PROCESS_LIMIT: usize = 16;
 pub const NAME_BYTE_LIMIT: usize = 32;
 /// At most so many bytes has the id of a message, and at least one.
 pub const ID_BYTE_LIMIT: usize = 64;
+/// At most so many bytes has a note of its text, and of its place's file: what is longer is cut.
+pub const NOTE_BYTE_LIMIT: usize = 1_024;
 
 const RESERVED: [&str; 5] = ["and", "or", "not", "true", "false"];
 const PATIENCE: Duration = Duration::from_secs(10);
 const PORT_LIMIT: u16 = 65_534;
 const PAUSE: Duration = Duration::from_millis(50);
+const ENDING: &str = ".stream";
+const NOTES_ENDING: &str = ".notes.jsonl";
 
 /// A variable and the value that it has from now on. For a truth write `("inside", is_inside.into())`.
 pub type Setting<'a> = (&'a str, i64);
@@ -102,6 +110,9 @@ pub enum Error {
     NotEnded(String),
     /// `MONITOR_TO` isn't set, or is this text, which is a port that there isn't.
     Where(String),
+    /// There is no place for notes, since this is a port, or a file whose name doesn't end with `.stream`; or it is the
+    /// text of `MONITOR_NOTES`, and is neither 1 nor 0.
+    Notes(String),
     /// The system could not open or write the recording; a part of the line may have been written.
     Io(io::Error),
 }
@@ -151,6 +162,11 @@ impl Error {
                 to,
                 "MONITOR_TO is {place:?}, and names a folder, or a port from 1 to {PORT_LIMIT} as :7411"
             ),
+            Error::Notes(text) => write!(
+                to,
+                "{text:?} has no place for notes, which go beside a file whose name ends with {ENDING} and to no port; \
+                 MONITOR_NOTES is 1 for notes, and else 0 or not set"
+            ),
             Error::NoPlace => write!(
                 to,
                 "there is no place for the stream of a strand: make the recorder by to_file or to_port"
@@ -191,14 +207,31 @@ pub struct Recorder {
     process: String,
     owner: u32,
     recording: Arc<Mutex<Recording>>,
-    is_strand: bool,
+    /// Where it was begun, if it is a strand.
+    begun: Option<Place>,
     family: Arc<Family>,
+}
+
+/// A place in the program.
+type Place = &'static Location<'static>;
+
+/// What a note says but for the process, the event and the clock.
+#[derive(Clone, Copy)]
+struct Note<'a> {
+    text: &'a str,
+    place: Place,
+}
+
+impl Note<'_> {
+    fn at(place: Place) -> Self {
+        Note { text: "", place }
+    }
 }
 
 /// A process that is recorded and its strands.
 struct Family {
-    /// Where the streams of strands are, if there is a place for them.
-    place: Option<Place>,
+    /// Where the streams of strands are, if there is room for them.
+    room: Option<Room>,
     strands: Mutex<Strands>,
 }
 
@@ -217,10 +250,143 @@ fn port_in(place: &str) -> Option<Result<u16, OutOfRange>> {
     })
 }
 
-enum Place {
+enum Room {
     /// Beside the file of the process.
-    Beside(PathBuf),
+    Beside(PathBuf, Options),
     Port(u16, Duration),
+}
+
+/// How a file is recorded to.
+///
+/// ```no_run
+/// # fn main() -> Result<(), monitor_recorder::Error> {
+/// let left = monitor_recorder::Options::new().notes(true).to_file("left", "left.stream")?;
+/// # left.end()
+/// # }
+/// ```
+#[derive(Clone, Copy, Debug, Default)]
+#[must_use = "options record nothing by themselves"]
+pub struct Options {
+    has_notes: bool,
+    replaces: bool,
+}
+
+impl Options {
+    /// Those of [`Recorder::to_file`]: a new file, without notes.
+    pub fn new() -> Self {
+        Options::default()
+    }
+
+    /// Whether each event gets a note, in a file beside: that of `left.stream` is `left.notes.jsonl`. The path has to
+    /// end with `.stream` then, or it is [`Error::Notes`]. docs/RECORDING.md has the format.
+    pub fn notes(self, has_notes: bool) -> Self {
+        Options { has_notes, ..self }
+    }
+
+    /// Whether a file may be there already, which is lost then, with its notes.
+    pub fn replace(self, replaces: bool) -> Self {
+        Options { replaces, ..self }
+    }
+
+    /// Records to a file.
+    pub fn to_file(self, process: &str, path: impl AsRef<Path>) -> Result<Recorder, Error> {
+        check_process(process)?;
+        let path = env::current_dir().unwrap_or_default().join(path); // the working directory may change
+        if self.has_notes && notes_path(&path).is_none() {
+            return Err(Error::Notes(path.to_string_lossy().into_owned()));
+        }
+        let (file, notes) = self.open(&path)?;
+        Recorder::over(process, file, notes, Some(Room::Beside(path, self)))
+    }
+
+    /// Records to where `MONITOR_TO` says, as [`Recorder::from_environment`] does.
+    #[allow(clippy::wrong_self_convention)]
+    pub fn from_environment(mut self, process: &str) -> Result<Recorder, Error> {
+        check_process(process)?;
+        let place = env::var_os("MONITOR_TO").unwrap_or_default();
+        if place.is_empty() {
+            return Err(Error::Where(String::new()));
+        }
+        let text = || place.to_string_lossy().into_owned();
+        match env::var_os("MONITOR_NOTES") {
+            Some(notes) if notes == "1" => self.has_notes = true,
+            Some(notes) if !notes.is_empty() && notes != "0" => {
+                return Err(Error::Notes(notes.to_string_lossy().into_owned()));
+            }
+            _ => (),
+        }
+        match place.to_str().and_then(port_in) {
+            Some(Err(OutOfRange)) => Err(Error::Where(text())),
+            Some(Ok(_)) if self.has_notes => Err(Error::Notes(text())),
+            Some(Ok(port)) => Recorder::to_port(process, port),
+            None => {
+                fs::create_dir_all(&place)?;
+                self.to_file(
+                    process,
+                    Path::new(&place).join(format!("{process}{ENDING}")),
+                )
+            }
+        }
+    }
+
+    /// Opens the files of a recording. What it replaces has no notes any more.
+    fn open(self, path: &Path) -> io::Result<(File, Option<File>)> {
+        let file = self.new_file(path)?;
+        let notes = match notes_path(path) {
+            Some(notes) if self.has_notes => self.new_file(&notes).map(Some),
+            Some(notes) if self.replaces => match fs::remove_file(notes) {
+                Err(error) if error.kind() != io::ErrorKind::NotFound => Err(error),
+                _ => Ok(None),
+            },
+            _ => Ok(None),
+        };
+        if notes.is_err() && !self.replaces {
+            let _ = fs::remove_file(path); // the error of its notes says more
+        }
+        Ok((file, notes?))
+    }
+
+    fn new_file(self, path: &Path) -> io::Result<File> {
+        let mut options = OpenOptions::new();
+        options.write(true);
+        let opened = if self.replaces {
+            options.create(true).truncate(true).open(path)
+        } else {
+            options.create_new(true).open(path)
+        };
+        opened.map_err(|error| match error.kind() {
+            io::ErrorKind::AlreadyExists => already(path),
+            _ => error,
+        })
+    }
+
+    /// Opens the files of a strand, in the folder of its process's file, which isn't replaced.
+    fn open_beside(self, first: &Path, name: &str) -> io::Result<(File, Option<File>)> {
+        let path = first.with_file_name(format!("{name}{ENDING}"));
+        if self.replaces {
+            if let (Ok(one), Ok(other)) = (path.canonicalize(), first.canonicalize()) {
+                if one == other {
+                    return Err(already(&path));
+                }
+            }
+        }
+        self.open(&path)
+    }
+}
+
+fn already(path: &Path) -> io::Error {
+    let advice = "record to another file or folder, remove it, or say replace(true)";
+    let text = format!(
+        "{} is there already, and a recording isn't written over: {advice}",
+        path.display()
+    );
+    io::Error::new(io::ErrorKind::AlreadyExists, text)
+}
+
+/// The file of the notes of a stream, if that has a name by which there can be one.
+fn notes_path(path: &Path) -> Option<PathBuf> {
+    let stem = path.file_name()?.to_str()?.strip_suffix(ENDING)?;
+    Some(path.with_file_name(format!("{stem}{NOTES_ENDING}")))
 }
 
 struct Strands {
@@ -232,6 +398,8 @@ struct Strands {
 struct Recording {
     process: String,
     is_strand: bool,
+    /// Where the notes of the events are written, if they have some.
+    notes: Option<File>,
     /// The id of the message by which a strand has ended.
     last: Option<String>,
     /// Nothing, once the recording has ended.
@@ -247,10 +415,7 @@ struct Recording {
 impl Recorder {
     /// Records to a new file. One that is there already is [`io::ErrorKind::AlreadyExists`].
     pub fn to_file(process: &str, path: impl AsRef<Path>) -> Result<Self, Error> {
-        check_process(process)?;
-        let path = env::current_dir().unwrap_or_default().join(path); // the working directory may change
-        let file = new_file(&path)?;
-        Recorder::over(process, file, Some(Place::Beside(path)))
+        Options::new().to_file(process, path)
     }
 
     /// Records to `monitor serve` on a port of this machine, which may listen up to ten seconds later; if nobody does
@@ -262,41 +427,31 @@ impl Recorder {
     /// The same, with another time to wait for somebody who listens.
     pub fn to_port_within(process: &str, port: u16, patience: Duration) -> Result<Self, Error> {
         check_process(process)?;
-        let place = Place::Port(port, patience);
-        Recorder::over(process, connection_to(port, patience)?, Some(place))
+        let room = Room::Port(port, patience);
+        Recorder::over(process, connection_to(port, patience)?, None, Some(room))
     }
 
     /// Records to where `MONITOR_TO` in the environment says, so that no code changes between a test and a live
     /// session: to a new file `NAME.stream` in a folder of this name, which is made if there is none; or to `monitor
-    /// serve` on a port of this machine, of `:7411` or `localhost:7411`.
+    /// serve` on a port of this machine, of `:7411` or `localhost:7411`. With `MONITOR_NOTES=1` each event gets a note
+    /// beside the file; a port has no place for notes, so the two together are [`Error::Notes`].
     pub fn from_environment(process: &str) -> Result<Self, Error> {
-        check_process(process)?;
-        let place = env::var_os("MONITOR_TO").unwrap_or_default();
-        if place.is_empty() {
-            return Err(Error::Where(String::new()));
-        }
-        match place.to_str().and_then(port_in) {
-            Some(Ok(port)) => Recorder::to_port(process, port),
-            Some(Err(OutOfRange)) => Err(Error::Where(place.to_string_lossy().into_owned())),
-            None => {
-                fs::create_dir_all(&place)?;
-                Recorder::to_file(process, Path::new(&place).join(format!("{process}.stream")))
-            }
-        }
+        Options::new().from_environment(process)
     }
 
     /// Records to a file, a connection or whatever else takes bytes; each line is flushed.
     pub fn new(process: &str, out: impl Write + Send + 'static) -> Result<Self, Error> {
         check_process(process)?;
-        Recorder::over(process, out, None)
+        Recorder::over(process, out, None, None)
     }
 
     fn over(
         process: &str,
         out: impl Write + Send + 'static,
-        place: Option<Place>,
+        notes: Option<File>,
+        room: Option<Room>,
     ) -> Result<Self, Error> {
-        let recording = Recording::begun(process, Box::new(out), false)?;
+        let recording = Recording::begun(process, Box::new(out), notes, false)?;
         let strands = Strands {
             names: HashSet::from([process.to_owned()]),
             recordings: Some(Vec::new()),
@@ -305,58 +460,72 @@ impl Recorder {
             process: process.to_owned(),
             owner: process::id(),
             recording: Arc::new(Mutex::new(recording)),
-            is_strand: false,
+            begun: None,
             family: Arc::new(Family {
-                place,
+                room,
                 strands: Mutex::new(strands),
             }),
         })
     }
 
+    /// The same recorder, of which the next call is given this text for the note of its event. It says nothing if events
+    /// have no notes.
+    pub fn noted<'a>(&'a self, text: &'a str) -> Noted<'a> {
+        Noted {
+            recorder: self,
+            text,
+        }
+    }
+
     /// Something happened in this process; these variables have these values from now on.
+    #[track_caller]
     pub fn event(&self, settings: &[Setting]) -> Result<(), Error> {
-        self.ready()?.record(None, settings)
+        self.noted("").event(settings)
     }
 
     /// This process sends a message to one other or, if the document is of version 2, to several: call it once, BEFORE
     /// the message leaves. The id that it makes, the process's name and a counter as in `left-1`, has to travel with
     /// the message.
+    #[track_caller]
     pub fn send(&self, settings: &[Setting]) -> Result<String, Error> {
-        let mut recording = self.ready()?;
-        recording.check_room()?;
-        recording.send_any(settings)
+        self.noted("").send(settings)
     }
 
     /// The same, with an id that no other send of the session has.
+    #[track_caller]
     pub fn send_as(&self, id: &str, settings: &[Setting]) -> Result<(), Error> {
-        self.ready()?.record(Some(("send", id)), settings)
+        self.noted("").send_as(id, settings)
     }
 
     /// A message has come, with this id: call it AFTER that. A second copy of a message is [`Error::IdTwice`].
+    #[track_caller]
     pub fn receive(&self, id: &str, settings: &[Setting]) -> Result<(), Error> {
-        self.ready()?.record(Some(("recv", id)), settings)
+        self.noted("").receive(id, settings)
     }
 
     /// Begins a strand, for a thread or task that waits by itself: a recorder which is a process of the session, of
     /// this name. It is recorded to NAME.stream beside the file of this recorder, or to the same port. This process
     /// sends it a message, so call it where the thread or task is started. A strand ends by [`Recorder::end`], or when
     /// it is dropped; then it sends a message to whoever joins it. It ends with its process at the latest.
+    #[track_caller]
     pub fn strand(&self, name: &str) -> Result<Recorder, Error> {
         check_process(name)?;
+        let place = Location::caller();
         let mut recording = self.ready()?;
         recording.check_room()?;
         let strand = Recorder {
             process: name.to_owned(),
             owner: self.owner,
             recording: self.family.begun(name)?,
-            is_strand: true,
+            begun: Some(place),
             family: Arc::clone(&self.family),
         };
+        let note = Note::at(place);
         let begun = recording
-            .send_any(&[])
-            .and_then(|id| strand.receive(&id, &[]));
+            .send_any(&[], note)
+            .and_then(|id| strand.ready()?.record(Some(("recv", &id)), &[], note));
         if let Err(error) = begun {
-            strand.locked().out = None;
+            strand.locked().close();
             return Err(error);
         }
         Ok(strand)
@@ -364,12 +533,9 @@ impl Recorder {
 
     /// This process has waited for a strand, which has ended: call it AFTER that. It receives the strand's last
     /// message; these variables have these values from now on.
+    #[track_caller]
     pub fn join(&self, strand: &Recorder, settings: &[Setting]) -> Result<(), Error> {
-        let last = strand.locked().last.clone();
-        let mut recording = self.ready()?;
-        recording.check_room()?;
-        let last = last.ok_or_else(|| Error::NotEnded(strand.process.clone()))?;
-        recording.record(Some(("recv", &last)), settings)
+        self.noted("").join(strand, settings)
     }
 
     /// How many events are recorded.
@@ -379,8 +545,13 @@ impl Recorder {
 
     /// Nothing more happens in this process: writes the end line, and closes the file or connection; its strands that
     /// have not ended get their end lines. A strand sends its last message before. A second call does nothing.
+    #[track_caller]
     pub fn end(&self) -> Result<(), Error> {
-        let strands = if self.is_strand || process::id() != self.owner {
+        self.end_at(Location::caller())
+    }
+
+    fn end_at(&self, place: Place) -> Result<(), Error> {
+        let strands = if self.begun.is_some() || process::id() != self.owner {
             Ok(())
         } else {
             self.family.end_all(Recording::cut_off)
@@ -389,7 +560,7 @@ impl Recorder {
             Err(Error::Ended) => return strands,
             ready => ready?,
         };
-        recording.end()?;
+        recording.end(place)?;
         strands
     }
 
@@ -399,15 +570,20 @@ impl Recorder {
 
     /// The recording, if a line may be written to it.
     fn ready(&self) -> Result<MutexGuard<'_, Recording>, Error> {
-        if process::id() != self.owner {
-            return Err(Error::Fork);
-        }
-        let recording = self.locked();
-        match recording.out {
-            None => Err(Error::Ended),
-            Some(_) if recording.is_broken => Err(Error::Broken),
-            Some(_) => Ok(recording),
-        }
+        ready(self.owner, &self.recording)
+    }
+}
+
+/// The recording of this process, if a line may be written to it.
+fn ready(owner: u32, recording: &Mutex<Recording>) -> Result<MutexGuard<'_, Recording>, Error> {
+    if process::id() != owner {
+        return Err(Error::Fork);
+    }
+    let recording = locked(recording);
+    match recording.out {
+        None => Err(Error::Ended),
+        Some(_) if recording.is_broken => Err(Error::Broken),
+        Some(_) => Ok(recording),
     }
 }
 
@@ -417,17 +593,80 @@ impl Drop for Recorder {
         if process::id() != self.owner {
             return;
         }
-        if self.is_strand {
-            let _ = self.end(); // who wants to know of an error calls it before
-            self.locked().out = None;
+        if let Some(place) = self.begun {
+            let _ = self.end_at(place); // who wants to know of an error calls `end` before
+            self.locked().close();
         } else {
             let _ = self.family.end_all(|strand| {
-                strand.out = None;
+                strand.close();
                 Ok(())
             });
         }
     }
 }
+
+/// A recorder whose next call has a text for its note: see [`Recorder::noted`]. Its calls are those of [`Recorder`].
+#[derive(Clone, Copy)]
+#[must_use = "a text alone records nothing"]
+pub struct Noted<'a> {
+    recorder: &'a Recorder,
+    text: &'a str,
+}
+
+impl Noted<'_> {
+    /// Something happened in this process.
+    #[track_caller]
+    pub fn event(self, settings: &[Setting]) -> Result<(), Error> {
+        self.record(None, settings, Location::caller())
+    }
+
+    /// This process sends a message, and its id is made: call it BEFORE the message leaves.
+    #[track_caller]
+    pub fn send(self, settings: &[Setting]) -> Result<String, Error> {
+        let note = self.at(Location::caller());
+        let mut recording = self.recorder.ready()?;
+        recording.check_room()?;
+        recording.send_any(settings, note)
+    }
+
+    /// This process sends a message with this id: call it BEFORE the message leaves.
+    #[track_caller]
+    pub fn send_as(self, id: &str, settings: &[Setting]) -> Result<(), Error> {
+        self.record(Some(("send", id)), settings, Location::caller())
+    }
+
+    /// A message has come, with this id: call it AFTER that.
+    #[track_caller]
+    pub fn receive(self, id: &str, settings: &[Setting]) -> Result<(), Error> {
+        self.record(Some(("recv", id)), settings, Location::caller())
+    }
+
+    /// This process has waited for a strand, which has ended: call it AFTER that.
+    #[track_caller]
+    pub fn join(self, strand: &Recorder, settings: &[Setting]) -> Result<(), Error> {
+        let note = self.at(Location::caller());
+        let last = strand.locked().last.clone();
+        let mut recording = self.recorder.ready()?;
+        recording.check_room()?;
+        let last = last.ok_or_else(|| Error::NotEnded(strand.process.clone()))?;
+        recording.record(Some(("recv", &last)), settings, note)
+    }
+
+    fn at(&self, place: Place) -> Note<'_> {
+        Note {
+            text: self.text,
+            place,
+        }
+    }
+
+    fn record(self, message: Message, settings: &[Setting], place: Place) -> Result<(), Error> {
+        let note = self.at(place);
+        self.recorder.ready()?.record(message, settings, note)
+    }
+}
+
+/// The field and the id of a message, if an event has one.
+type Message<'a> = Option<(&'a str, &'a str)>;
 
 fn locked<T>(mutex: &Mutex<T>) -> MutexGuard<'_, T> {
     mutex.lock().unwrap_or_else(PoisonError::into_inner)
@@ -445,14 +684,15 @@ impl Family {
         if strands.names.len() == PROCESS_LIMIT {
             return Err(Error::Processes);
         }
-        let out: Box<dyn Write + Send> = match &self.place {
+        let (out, notes): (Box<dyn Write + Send>, _) = match &self.room {
             None => return Err(Error::NoPlace),
-            Some(Place::Beside(path)) => {
-                Box::new(new_file(&path.with_file_name(format!("{name}.stream")))?)
+            Some(Room::Beside(path, options)) => {
+                let (file, notes) = options.open_beside(path, name)?;
+                (Box::new(file), notes)
             }
-            Some(Place::Port(port, patience)) => Box::new(connection_to(*port, *patience)?),
+            Some(Room::Port(port, patience)) => (Box::new(connection_to(*port, *patience)?), None),
         };
-        let recording = Arc::new(Mutex::new(Recording::begun(name, out, true)?));
+        let recording = Arc::new(Mutex::new(Recording::begun(name, out, notes, true)?));
         strands.names.insert(name.to_owned());
         recordings.push(Arc::clone(&recording));
         Ok(recording)
@@ -479,10 +719,16 @@ impl fmt::Debug for Recorder {
 
 impl Recording {
     /// A recording with its first line.
-    fn begun(process: &str, out: Box<dyn Write + Send>, is_strand: bool) -> Result<Self, Error> {
+    fn begun(
+        process: &str,
+        out: Box<dyn Write + Send>,
+        notes: Option<File>,
+        is_strand: bool,
+    ) -> Result<Self, Error> {
         let mut recording = Recording {
             process: process.to_owned(),
             is_strand,
+            notes,
             last: None,
             out: Some(out),
             is_broken: false,
@@ -508,24 +754,24 @@ impl Recording {
     }
 
     /// Records a send with an id that it makes.
-    fn send_any(&mut self, settings: &[Setting]) -> Result<String, Error> {
+    fn send_any(&mut self, settings: &[Setting], note: Note) -> Result<String, Error> {
         let mut number = self.made + 1;
         while self.ids.contains(&self.id(number)) {
             number += 1;
         }
         let id = self.id(number);
-        self.put(Some(("send", &id)), settings)?;
+        self.put(Some(("send", &id)), settings, note)?;
         self.made = number;
         Ok(id)
     }
 
     /// Writes the end line and closes; a strand sends its last message before.
-    fn end(&mut self) -> Result<(), Error> {
+    fn end(&mut self, place: Place) -> Result<(), Error> {
         if self.is_strand {
-            self.last = Some(self.send_any(&[])?);
+            self.last = Some(self.send_any(&[], Note::at(place))?);
         }
         self.write("{\"end\":true}\n")?;
-        self.out = None;
+        self.close();
         Ok(())
     }
 
@@ -537,18 +783,18 @@ impl Recording {
         } else {
             Ok(())
         };
-        self.out = None;
+        self.close();
         ended
     }
 
     /// Checks an event and writes its line; the message is its field and its id.
-    fn record(&mut self, message: Option<(&str, &str)>, settings: &[Setting]) -> Result<(), Error> {
+    fn record(&mut self, message: Message, settings: &[Setting], note: Note) -> Result<(), Error> {
         self.check_room()?;
-        self.put(message, settings)
+        self.put(message, settings, note)
     }
 
-    /// Checks the message and the variables of an event, and writes its line.
-    fn put(&mut self, message: Option<(&str, &str)>, settings: &[Setting]) -> Result<(), Error> {
+    /// Checks the message and the variables of an event, and writes its note, if it has one, and its line.
+    fn put(&mut self, message: Message, settings: &[Setting], note: Note) -> Result<(), Error> {
         if let Some((_, id)) = message {
             if id.is_empty() || id.len() > ID_BYTE_LIMIT {
                 return Err(Error::Id(id.to_owned()));
@@ -558,6 +804,7 @@ impl Recording {
             }
         }
         self.check_settings(settings)?;
+        self.note(note)?;
         self.write(&line_of(message, settings))?;
         self.events += 1;
         self.ids.extend(message.map(|(_, id)| id.to_owned()));
@@ -583,6 +830,23 @@ impl Recording {
         Ok(())
     }
 
+    /// Writes the note of the event whose line is written next, if the events have notes: so each event that a stream has
+    /// has its note.
+    fn note(&mut self, note: Note) -> Result<(), Error> {
+        if let Some(notes) = &mut self.notes {
+            self.is_broken = true;
+            notes.write_all(note_line(&self.process, self.events + 1, note).as_bytes())?;
+            self.is_broken = false;
+        }
+        Ok(())
+    }
+
+    /// Closes what is written to.
+    fn close(&mut self) {
+        self.out = None;
+        self.notes = None;
+    }
+
     /// Hands the line to the system. If that fails, or panics, nothing more is written later.
     fn write(&mut self, line: &str) -> Result<(), Error> {
         // With the limits above no line has over 1,400 bytes, and no stream over 14,000,000: monitor takes more.
@@ -595,8 +859,47 @@ impl Recording {
     }
 }
 
+/// The line of a note, with its LF.
+fn note_line(process: &str, event: usize, note: Note) -> String {
+    let now = SystemTime::now()
+        .duration_since(UNIX_EPOCH)
+        .unwrap_or_default();
+    let (seconds, microseconds) = (now.as_secs(), now.subsec_micros());
+    let text = escaped(bounded(note.text));
+    let place = format!("{}:{}", bounded(note.place.file()), note.place.line());
+    format!(
+        "{{\"process\": \"{process}\", \"event\": {event}, \"text\": {text}, \"place\": {}, \
+         \"clock\": {seconds}.{microseconds:06}}}\n",
+        escaped(&place)
+    )
+}
+
+/// The text, cut if it is too long.
+fn bounded(text: &str) -> &str {
+    let mut size = text.len().min(NOTE_BYTE_LIMIT);
+    while !text.is_char_boundary(size) {
+        size -= 1;
+    }
+    &text[..size]
+}
+
+/// The text as JSON has it between quotes. Besides what JSON escapes these are: a terminal takes some for commands, and
+/// what reads lines others for their ends.
+fn escaped(text: &str) -> String {
+    let mut escaped = String::new();
+    for character in quoted(text).chars() {
+        match character {
+            '\u{7f}'..='\u{9f}' | '\u{2028}' | '\u{2029}' => {
+                escaped.push_str(&format!("\\u{:04x}", u32::from(character)));
+            }
+            _ => escaped.push(character),
+        }
+    }
+    escaped
+}
+
 /// The line of an event, with its LF.
-fn line_of(message: Option<(&str, &str)>, settings: &[Setting]) -> String {
+fn line_of(message: Message, settings: &[Setting]) -> String {
     let mut fields = Vec::new();
     if let Some((field, id)) = message {
         fields.push(format!("{}:{}", quoted(field), quoted(id)));
@@ -628,10 +931,6 @@ fn quoted(text: &str) -> String {
     }
     quoted.push('"');
     quoted
-}
-
-fn new_file(path: &Path) -> io::Result<File> {
-    OpenOptions::new().write(true).create_new(true).open(path)
 }
 
 fn check_process(name: &str) -> Result<(), Error> {

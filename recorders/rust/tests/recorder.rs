@@ -1,10 +1,10 @@
 //! Tests of the recorder that the shared cases can't say.
-use monitor_recorder::{Error, Recorder};
+use monitor_recorder::{Error, Options, Recorder};
 use std::fs;
 use std::io::{self, BufWriter, ErrorKind, Read, Write};
 use std::net::{TcpListener, TcpStream};
 use std::panic::{self, AssertUnwindSafe};
-use std::path::PathBuf;
+use std::path::{Path, PathBuf};
 use std::sync::{Arc, Mutex};
 use std::thread;
 use std::time::Duration;
@@ -240,6 +240,165 @@ fn a_place_that_the_environment_names() {
         assert!(matches!(at(place, "left"), Err(Error::Where(_))));
     }
     assert!(matches!(at(place, "and"), Err(Error::ProcessName(_))));
+    notes_that_the_environment_names(&into);
+    fs::remove_dir_all(&folder).unwrap();
+}
+
+fn notes_that_the_environment_names(into: &Path) {
+    for (notes, names) in [("1", 2), ("0", 1), ("", 1)] {
+        std::env::set_var("MONITOR_NOTES", notes);
+        std::env::set_var("MONITOR_TO", into);
+        let recorder = Options::new()
+            .replace(true)
+            .from_environment("left")
+            .unwrap();
+        recorder.event(&[]).unwrap();
+        recorder.end().unwrap();
+        assert_eq!(fs::read_dir(into).unwrap().count(), names);
+    }
+    for (notes, place) in [("1", ":7411"), ("yes", "into"), ("yes", ":7411")] {
+        std::env::set_var("MONITOR_NOTES", notes);
+        std::env::set_var("MONITOR_TO", place);
+        assert!(matches!(
+            Recorder::from_environment("left"),
+            Err(Error::Notes(_))
+        ));
+    }
+    std::env::remove_var("MONITOR_NOTES");
+}
+
+/// The notes of a process, without their clocks, each with the line of this file that is its place.
+fn notes_of(folder: &Folder, name: &str) -> Vec<(String, String)> {
+    let source = include_str!("recorder.rs");
+    let text = fs::read_to_string(folder.0.join(format!("{name}.notes.jsonl"))).unwrap();
+    assert!(text.ends_with('\n'));
+    let notes = text.lines().enumerate().map(|(number, line)| {
+        let head = format!(
+            "{{\"process\": \"{name}\", \"event\": {}, \"text\": \"",
+            number + 1
+        );
+        let (text, rest) = line
+            .strip_prefix(&head)
+            .and_then(|rest| rest.split_once("\", \"place\": \""))
+            .unwrap();
+        let (place, clock) = rest.split_once("\", \"clock\": ").unwrap();
+        let (seconds, microseconds) = clock.trim_end_matches('}').split_once('.').unwrap();
+        assert!(seconds.parse::<u64>().unwrap() > 1_700_000_000);
+        assert_eq!(microseconds.len(), 6);
+        let (file, line) = place.rsplit_once(':').unwrap();
+        assert!(file.ends_with("recorder.rs"), "{place}");
+        let there = source.lines().nth(line.parse::<usize>().unwrap() - 1);
+        (text.to_owned(), there.unwrap().trim().to_owned())
+    });
+    notes.collect()
+}
+
+fn noted(text: &str, line: &str) -> (String, String) {
+    (text.to_owned(), line.to_owned())
+}
+
+#[test]
+fn notes() {
+    let folder = Folder::new("notes");
+    let path = folder.0.join("left.stream");
+    let left = Options::new().notes(true).to_file("left", path).unwrap();
+    left.noted("said").event(&[("x", 1)]).unwrap();
+    let worker = left.strand("worker").unwrap();
+    drop(worker);
+    let other = left.strand("other").unwrap();
+    other.end().unwrap();
+    left.noted("joined").join(&other, &[]).unwrap();
+    ["a"].iter().for_each(|id| left.send_as(id, &[]).unwrap());
+    left.end().unwrap();
+    let begins = "let worker = left.strand(\"worker\").unwrap();";
+    let sends = "[\"a\"].iter().for_each(|id| left.send_as(id, &[]).unwrap());";
+    assert_eq!(
+        notes_of(&folder, "left"),
+        [
+            noted(
+                "said",
+                "left.noted(\"said\").event(&[(\"x\", 1)]).unwrap();"
+            ),
+            noted("", begins),
+            noted("", "let other = left.strand(\"other\").unwrap();"),
+            noted(
+                "joined",
+                "left.noted(\"joined\").join(&other, &[]).unwrap();"
+            ),
+            noted("", sends),
+        ]
+    );
+    assert_eq!(
+        notes_of(&folder, "worker"),
+        [noted("", begins), noted("", begins)]
+    );
+    assert_eq!(
+        notes_of(&folder, "other")[1],
+        noted("", "other.end().unwrap();")
+    );
+}
+
+fn names_in(folder: &Folder) -> Vec<String> {
+    let entries = fs::read_dir(&folder.0).unwrap();
+    let mut names: Vec<_> = entries
+        .map(|entry| entry.unwrap().file_name().into_string().unwrap())
+        .collect();
+    names.sort();
+    names
+}
+
+#[test]
+fn files_that_are_replaced_and_that_are_not() {
+    let folder = Folder::new("replaced");
+    let path = folder.0.join("left.stream");
+    for name in ["left", "left.stream.txt"] {
+        let made = Options::new()
+            .notes(true)
+            .to_file("left", folder.0.join(name));
+        assert!(matches!(made, Err(Error::Notes(_))));
+    }
+    fs::write(folder.0.join("left.notes.jsonl"), "mine").unwrap();
+    let made = Options::new().notes(true).to_file("left", &path);
+    assert!(matches!(made, Err(Error::Io(error)) if error.kind() == ErrorKind::AlreadyExists));
+    assert_eq!(names_in(&folder), ["left.notes.jsonl"]);
+    for _ in 0..2 {
+        let options = Options::new().notes(true).replace(true);
+        let left = options.to_file("left", &path).unwrap();
+        left.strand("worker").unwrap().end().unwrap();
+        left.end().unwrap();
+    }
+    assert_eq!(
+        stream_of(&folder, "left"),
+        format!("{JOIN}{{\"send\":\"left-1\"}}\n{END}")
+    );
+    let options = Options::new().replace(true);
+    options.to_file("left", &path).unwrap().end().unwrap();
+    assert_eq!(
+        names_in(&folder),
+        ["left.stream", "worker.notes.jsonl", "worker.stream"]
+    );
+    let other = options.to_file("other", &path).unwrap();
+    let error = other.strand("left").unwrap_err();
+    assert!(
+        error.to_string().contains("a recording isn't written over"),
+        "{error}"
+    );
+    other.end().unwrap();
+}
+
+#[cfg(unix)]
+#[test]
+fn after_a_note_that_could_not_be_written_nothing_is() {
+    let folder = Folder::new("full");
+    std::os::unix::fs::symlink("/dev/full", folder.0.join("left.notes.jsonl")).unwrap();
+    let options = Options::new().notes(true).replace(true);
+    let left = options
+        .to_file("left", folder.0.join("left.stream"))
+        .unwrap();
+    assert!(matches!(left.event(&[]), Err(Error::Io(_))));
+    assert!(matches!(left.event(&[]), Err(Error::Broken)));
+    drop(left);
+    assert_eq!(stream_of(&folder, "left"), JOIN);
 }
 
 #[test]
