@@ -977,6 +977,69 @@ const char *monitor_text(monitor_status status)
     return "not a status";
 }
 
+/* Locks */
+
+monitor_status monitor_mutex_init(monitor_mutex *mutex)
+{
+    mutex->sender[0] = mutex->sent[0] = '\0';
+    errno = pthread_mutex_init(&mutex->lock, NULL);
+    return errno == 0 ? MONITOR_RECORDED : MONITOR_SYSTEM;
+}
+
+monitor_status monitor_mutex_destroy(monitor_mutex *mutex)
+{
+    errno = pthread_mutex_destroy(&mutex->lock);
+    return errno == 0 ? MONITOR_RECORDED : MONITOR_SYSTEM;
+}
+
+/* Records the receipt of the message that came with the lock, if there is one from another process. The lock is held, and
+ * is released if the receipt isn't recorded. */
+static monitor_status receive_lock(const monitor_note *note, monitor_mutex *mutex, monitor_recorder *recorder)
+{
+    if (recorder == NULL || mutex->sent[0] == '\0' || strcmp(mutex->sender, recorder->process) == 0)
+        return MONITOR_RECORDED;
+    monitor_status status = monitor_receive_at(note, recorder, mutex->sent, MONITOR_NOTHING);
+    int reason = errno;
+    if (status == MONITOR_RECORDED)
+        mutex->sent[0] = '\0';
+    else
+        pthread_mutex_unlock(&mutex->lock);
+    errno = reason;
+    return status;
+}
+
+monitor_status monitor_mutex_lock_at(const monitor_note *note, monitor_mutex *mutex, monitor_recorder *recorder)
+{
+    errno = pthread_mutex_lock(&mutex->lock);
+    return errno == 0 ? receive_lock(note, mutex, recorder) : MONITOR_SYSTEM;
+}
+
+monitor_status monitor_mutex_trylock_at(const monitor_note *note, monitor_mutex *mutex, monitor_recorder *recorder)
+{
+    errno = pthread_mutex_trylock(&mutex->lock);
+    return errno == 0 ? receive_lock(note, mutex, recorder) : MONITOR_SYSTEM;
+}
+
+monitor_status monitor_mutex_unlock_at(const monitor_note *note, monitor_mutex *mutex, monitor_recorder *recorder)
+{
+    char id[MONITOR_ID_ROOM];
+    monitor_status status = MONITOR_RECORDED;
+    if (recorder != NULL)
+        status = monitor_send_at(note, recorder, id, MONITOR_NOTHING);
+    int reason = errno;
+    if (recorder != NULL && status == MONITOR_RECORDED) {
+        strcpy(mutex->sender, recorder->process);
+        strcpy(mutex->sent, id);
+    }
+    int failure = pthread_mutex_unlock(&mutex->lock);
+    if (failure != 0 && status == MONITOR_RECORDED) {
+        reason = failure;
+        status = MONITOR_SYSTEM;
+    }
+    errno = reason;
+    return status;
+}
+
 /* The calls by their names alone, whose events have no place. The header's macros of these names begin with a parenthesis
  * right after them. */
 
@@ -1022,4 +1085,19 @@ monitor_status(monitor_close)(monitor_recorder *recorder)
 void(monitor_abandon)(monitor_recorder *recorder)
 {
     monitor_abandon_at(NULL, recorder);
+}
+
+monitor_status(monitor_mutex_lock)(monitor_mutex *mutex, monitor_recorder *recorder)
+{
+    return monitor_mutex_lock_at(NULL, mutex, recorder);
+}
+
+monitor_status(monitor_mutex_trylock)(monitor_mutex *mutex, monitor_recorder *recorder)
+{
+    return monitor_mutex_trylock_at(NULL, mutex, recorder);
+}
+
+monitor_status(monitor_mutex_unlock)(monitor_mutex *mutex, monitor_recorder *recorder)
+{
+    return monitor_mutex_unlock_at(NULL, mutex, recorder);
 }

@@ -32,6 +32,7 @@
 #ifndef MONITOR_RECORDER_H
 #define MONITOR_RECORDER_H
 
+#include <pthread.h>
 #include <stddef.h>
 #include <stdint.h>
 
@@ -167,6 +168,31 @@ void monitor_abandon(monitor_recorder *recorder);
 /* What a status says, as a text. */
 const char *monitor_text(monitor_status status);
 
+/* A lock between threads, whose release is a message to whoever locks it next: a send of the recorder that is given and
+ * a receipt, if that is by another one. So what the lock keeps apart is kept apart in the recording. But the order in
+ * which it was locked is a cause then, and no other order is judged. A recorder that is NULL records nothing. */
+typedef struct {
+    pthread_mutex_t lock;
+    char sender[MONITOR_NAME_BYTE_LIMIT + 1]; /* who has sent the message, of which this is the id, if there is one */
+    char sent[MONITOR_ID_ROOM];
+} monitor_mutex;
+
+#define MONITOR_MUTEX_INITIALIZER {PTHREAD_MUTEX_INITIALIZER, "", ""}
+
+/* A lock that is free. What the system says is MONITOR_SYSTEM, with errno, also of the calls below. */
+monitor_status monitor_mutex_init(monitor_mutex *mutex);
+
+/* Waits until it is free, holds it, and records the receipt. With any status but MONITOR_RECORDED it isn't held. */
+monitor_status monitor_mutex_lock(monitor_mutex *mutex, monitor_recorder *recorder);
+
+/* The same, or MONITOR_SYSTEM with EBUSY if it isn't free. */
+monitor_status monitor_mutex_trylock(monitor_mutex *mutex, monitor_recorder *recorder);
+
+/* Records the send, and then releases it, whatever becomes of the send. */
+monitor_status monitor_mutex_unlock(monitor_mutex *mutex, monitor_recorder *recorder);
+
+monitor_status monitor_mutex_destroy(monitor_mutex *mutex);
+
 /* What the note of an event says: the line of the program that records it, and a text, or NULL. */
 typedef struct {
     const char *file;
@@ -189,6 +215,9 @@ monitor_status monitor_join_at(const monitor_note *note, monitor_recorder *recor
                                const monitor_setting *settings, size_t count);
 monitor_status monitor_close_at(const monitor_note *note, monitor_recorder *recorder);
 void monitor_abandon_at(const monitor_note *note, monitor_recorder *recorder);
+monitor_status monitor_mutex_lock_at(const monitor_note *note, monitor_mutex *mutex, monitor_recorder *recorder);
+monitor_status monitor_mutex_trylock_at(const monitor_note *note, monitor_mutex *mutex, monitor_recorder *recorder);
+monitor_status monitor_mutex_unlock_at(const monitor_note *note, monitor_mutex *mutex, monitor_recorder *recorder);
 
 /* In C a call is one with the line in which it stands. C++ has monitor_recorder.hpp for that. */
 #ifndef __cplusplus
@@ -201,6 +230,9 @@ void monitor_abandon_at(const monitor_note *note, monitor_recorder *recorder);
 #define monitor_join(...) monitor_join_at(MONITOR_NOTE(NULL), __VA_ARGS__)
 #define monitor_close(...) monitor_close_at(MONITOR_NOTE(NULL), __VA_ARGS__)
 #define monitor_abandon(...) monitor_abandon_at(MONITOR_NOTE(NULL), __VA_ARGS__)
+#define monitor_mutex_lock(...) monitor_mutex_lock_at(MONITOR_NOTE(NULL), __VA_ARGS__)
+#define monitor_mutex_trylock(...) monitor_mutex_trylock_at(MONITOR_NOTE(NULL), __VA_ARGS__)
+#define monitor_mutex_unlock(...) monitor_mutex_unlock_at(MONITOR_NOTE(NULL), __VA_ARGS__)
 #endif
 
 #ifdef __cplusplus

@@ -228,6 +228,8 @@ private:
     {
     }
 
+    friend class Mutex;
+
     template <typename Make> static Recorder made(const std::string &process, Make make)
     {
         check_text(process, MONITOR_PROCESS_NAME);
@@ -277,6 +279,64 @@ private:
     std::shared_ptr<Family> family_;
     bool is_strand_;
     Note begun_;
+};
+
+/* A lock between threads, whose release is a message to whoever locks it next, as monitor_mutex is. */
+class Mutex {
+public:
+    Mutex() { Recorder::check(monitor_mutex_init(&mutex_)); }
+    ~Mutex() { monitor_mutex_destroy(&mutex_); }
+    Mutex(const Mutex &) = delete;
+    Mutex &operator=(const Mutex &) = delete;
+
+    /* Waits until it is free, holds it, and records the receipt. What throws doesn't hold it. */
+    void lock(Recorder &recorder, const Note &note = {})
+    {
+        Recorder::check(monitor_mutex_lock_at(note.said(), &mutex_, recorder.use()));
+    }
+
+    /* The same, or false if it isn't free. */
+    bool try_lock(Recorder &recorder, const Note &note = {})
+    {
+        monitor_status status = monitor_mutex_trylock_at(note.said(), &mutex_, recorder.use());
+        if (status == MONITOR_SYSTEM && errno == EBUSY)
+            return false;
+        Recorder::check(status);
+        return true;
+    }
+
+    /* Records the send, and releases it, whatever becomes of the send: if it is refused, so are later calls of the
+     * recorder. */
+    void unlock(Recorder &recorder, const Note &note = {}) noexcept
+    {
+        monitor_mutex_unlock_at(note.said(), &mutex_, recorder.is_there() ? recorder.handle_ : nullptr);
+    }
+
+private:
+    monitor_mutex mutex_;
+};
+
+/* A mutex as one recorder locks it, for std::lock_guard and the like, in the thread of that recorder:
+ *
+ *     monitor::Lockable mine(mutex, worker);
+ *     std::lock_guard<monitor::Lockable> held(mine);
+ *
+ * The notes of its events have the place at which this is made. */
+class Lockable {
+public:
+    Lockable(Mutex &mutex, Recorder &recorder, const Note &note = {}) noexcept
+        : mutex_(mutex), recorder_(recorder), note_(note.place())
+    {
+    }
+
+    void lock() { mutex_.lock(recorder_, note_); }
+    bool try_lock() { return mutex_.try_lock(recorder_, note_); }
+    void unlock() noexcept { mutex_.unlock(recorder_, note_); }
+
+private:
+    Mutex &mutex_;
+    Recorder &recorder_;
+    Note note_;
 };
 
 } // namespace monitor

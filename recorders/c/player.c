@@ -156,6 +156,25 @@ static void *take_strand(void *argument)
     return NULL;
 }
 
+static monitor_mutex *contended; /* by which strands go inside by turns, if there is one */
+
+static void *go_inside(void *argument)
+{
+    work *mine = argument;
+    monitor_recorder *strand = taken[mine->number];
+    bool is_done = true;
+    for (int turn = 0; turn < mine->turns && is_done; turn++) {
+        if (contended != NULL)
+            is_done = monitor_mutex_lock(contended, strand) == MONITOR_RECORDED;
+        is_done = is_done && monitor_event(strand, MONITOR_SET({"x", 1})) == MONITOR_RECORDED &&
+                  monitor_event(strand, MONITOR_SET({"x", 0})) == MONITOR_RECORDED;
+        if (contended != NULL)
+            is_done = monitor_mutex_unlock(contended, strand) == MONITOR_RECORDED && is_done;
+    }
+    mine->is_done = monitor_close(strand) == MONITOR_RECORDED && is_done;
+    return NULL;
+}
+
 /* Runs so many threads, and says whether each did its work. */
 static bool run(void *(*work_of)(void *), int count, int turns)
 {
@@ -174,6 +193,8 @@ static bool run(void *(*work_of)(void *), int count, int turns)
     }
     return is_done;
 }
+
+static monitor_mutex door = MONITOR_MUTEX_INITIALIZER; /* the lock of which the cases tell */
 
 /* Makes a call that begins a recording, or ends it. The strands of a process are gone with it. */
 static bool open_or_close(char **words)
@@ -199,8 +220,10 @@ static bool open_or_close(char **words)
         return false;
     }
     answer_status(status, "");
-    if (!is_strand)
+    if (!is_strand) {
         named_count = 0;
+        monitor_mutex_init(&door);
+    }
     if (recorder != NULL)
         keep_named(words[1], recorder);
     return true;
@@ -244,14 +267,25 @@ static bool begin_or_join(char **words, size_t count)
     return true;
 }
 
-/* Whether C has no such call: its send puts a text into its place, and takes none, and no lock or queue is recorded. */
+/* Whether C has no such call: its send puts a text into its place, and takes none, and no queue is recorded. */
 static bool is_lacking(const char *call)
 {
-    static const char *const lacking[] = {"send-text", "lock", "unlock", "locked", "unlocked", "put", "take"};
+    static const char *const lacking[] = {"send-text", "put", "take"};
     for (size_t i = 0; i < sizeof lacking / sizeof lacking[0]; i++)
         if (strcmp(call, lacking[i]) == 0)
             return true;
     return false;
+}
+
+static bool lock_or_unlock(const char *call)
+{
+    if (strcmp(call, "lock") == 0)
+        answer_status(monitor_mutex_lock(&door, recorder), "");
+    else if (strcmp(call, "unlock") == 0)
+        answer_status(monitor_mutex_unlock(&door, recorder), "");
+    else
+        return false;
+    return true;
 }
 
 /* Makes a call that records an event, and gives a text for its note. */
@@ -317,7 +351,11 @@ static void make(char **words, size_t count)
         answer(run(send_all, atoi(words[1]), 0) ? "recorded" : "failed", "");
     } else if (strcmp(words[0], "strands") == 0) {
         answer(with_strands(take_strand, atoi(words[1]), atoi(words[2])) ? "recorded" : "failed", "");
-    } else if (!begin_or_join(words, count)) {
+    } else if (strcmp(words[0], "locked") == 0 || strcmp(words[0], "unlocked") == 0) {
+        monitor_mutex mutex = MONITOR_MUTEX_INITIALIZER;
+        contended = strcmp(words[0], "locked") == 0 ? &mutex : NULL;
+        answer(with_strands(go_inside, atoi(words[1]), atoi(words[2])) ? "recorded" : "failed", "");
+    } else if (!lock_or_unlock(words[0]) && !begin_or_join(words, count)) {
         record(words, count);
     }
 }

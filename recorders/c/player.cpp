@@ -27,6 +27,7 @@ struct Cannot {};
 std::optional<Recorder> process;
 std::string process_word;
 std::map<std::string, Recorder> strands;
+std::map<std::string, monitor::Mutex> locks;
 std::optional<std::string> said; /* the text of the note of the call, if it has one */
 std::mutex printing;
 
@@ -160,6 +161,27 @@ bool take_strands(Recorder &recorder, int count, int turns)
     return with_strands(recorder, count, turns, [](Recorder &strand, int turn) { strand.event({{"x", turn}}); });
 }
 
+void go_inside(Recorder &strand)
+{
+    strand.event({{"x", 1}});
+    strand.event({{"x", 0}});
+}
+
+/* Has strands go inside by turns, by a lock if they are to have one. */
+bool contend(Recorder &recorder, int count, int turns, bool is_locked)
+{
+    monitor::Mutex mutex;
+    return with_strands(recorder, count, turns, [&](Recorder &strand, int) {
+        monitor::Lockable mine(mutex, strand);
+        if (is_locked) {
+            std::lock_guard<monitor::Lockable> held(mine);
+            go_inside(strand);
+        } else {
+            go_inside(strand);
+        }
+    });
+}
+
 /* Makes a recording and answers, if the call is one that does so. */
 bool open(const Words &words)
 {
@@ -176,6 +198,7 @@ bool open(const Words &words)
         return false;
     process_word = words[1];
     strands.clear();
+    locks.clear();
     answer("recorded");
     return true;
 }
@@ -219,6 +242,10 @@ std::string record(Recorder &recorder, const Words &words)
         recorder.end();
     else if (call == "events")
         return std::to_string(recorder.events());
+    else if (call == "lock")
+        locks[words[1]].lock(recorder);
+    else if (call == "unlock")
+        locks[words[1]].unlock(recorder);
     else if (call == "strand")
         strands.insert_or_assign(words[1], recorder.strand(text_of(words[1])));
     else if (call == "join")
@@ -243,6 +270,9 @@ void make(Recorder *recorder, const Words &words)
     } else if (words[0] == "note") {
         said = text_of(words[1]);
         make(recorder, {words.begin() + 2, words.end()});
+    } else if (words[0] == "locked" || words[0] == "unlocked") {
+        bool is_locked = words[0] == "locked";
+        answer(contend(*recorder, std::stoi(words[1]), std::stoi(words[2]), is_locked) ? "recorded" : "failed");
     } else if (words[0] == "close") {
         if (recorder != nullptr)
             recorder->close();

@@ -318,6 +318,31 @@ static void test_notes_of_the_environment(void)
     unsetenv("MONITOR_TO");
 }
 
+static void test_a_mutex(void)
+{
+    monitor_mutex mutex;
+    monitor_recorder *a, *b, *left = opened_with("left.stream", 0);
+    RECORDED(monitor_strand(left, "a", &a));
+    RECORDED(monitor_strand(left, "b", &b));
+    RECORDED(monitor_mutex_init(&mutex));
+    RECORDED(monitor_mutex_lock(&mutex, a));
+    CHECK(monitor_mutex_trylock(&mutex, b) == MONITOR_SYSTEM && errno == EBUSY);
+    RECORDED(monitor_mutex_unlock(&mutex, a));
+    RECORDED(monitor_mutex_trylock(&mutex, a)); /* no receipt of its own */
+    RECORDED(monitor_mutex_unlock(&mutex, NULL));
+    RECORDED(monitor_close(b));
+    CHECK(monitor_mutex_lock(&mutex, b) == MONITOR_ENDED);
+    RECORDED(monitor_mutex_lock(&mutex, NULL)); /* so it is free, */
+    CHECK(monitor_mutex_unlock(&mutex, b) == MONITOR_ENDED);
+    RECORDED(monitor_mutex_lock(&mutex, left)); /* and the message is there still */
+    RECORDED(monitor_mutex_unlock(&mutex, left));
+    RECORDED(monitor_mutex_destroy(&mutex));
+    RECORDED(monitor_close(left));
+    CHECK(has_text("a.stream", "{\"process\":\"a\"}\n{\"recv\":\"left-1\"}\n{\"send\":\"a-1\"}\n{\"end\":true}\n"));
+    CHECK(has_text("left.stream", "{\"process\":\"left\"}\n{\"send\":\"left-1\"}\n{\"send\":\"left-2\"}\n"
+                                  "{\"recv\":\"a-1\"}\n{\"send\":\"left-3\"}\n{\"end\":true}\n"));
+}
+
 static monitor_recorder *strand_of(monitor_recorder *recorder, const char *name, const char *file)
 {
     monitor_recorder *strand = NULL;
@@ -451,5 +476,6 @@ int main(int count, char **arguments)
     test_notes();
     test_files_that_are_replaced();
     test_notes_of_the_environment();
+    test_a_mutex();
     return failures > 0;
 }

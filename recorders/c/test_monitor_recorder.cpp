@@ -231,12 +231,37 @@ void test_notes()
     CHECK(refusal([] { Recorder::to_file("left", "left", MONITOR_NOTES); }) == MONITOR_NO_NOTES);
 }
 
+void test_mutexes()
+{
+    Recorder left = Recorder::to_file("left", "left.stream", MONITOR_REPLACE);
+    Recorder a = left.strand("a"), b = left.strand("b");
+    monitor::Mutex mutex;
+    monitor::Lockable mine(mutex, a), others(mutex, b);
+    {
+        std::lock_guard<monitor::Lockable> held(mine);
+        CHECK(!mutex.try_lock(b));
+        std::unique_lock<monitor::Lockable> waits(others, std::try_to_lock);
+        CHECK(!waits.owns_lock());
+    }
+    b.end();
+    CHECK(refusal([&] { std::lock_guard<monitor::Lockable> held(others); }) == MONITOR_ENDED);
+    CHECK(mutex.try_lock(left));
+    mutex.unlock(left);
+    mutex.lock(a);
+    left.end();
+    mutex.unlock(a); // which isn't there any more
+    const std::string of_left = "{\"recv\":\"a-1\"}\n{\"send\":\"left-3\"}\n{\"end\":true}\n";
+    const std::string of_a = "{\"send\":\"a-1\"}\n{\"recv\":\"left-3\"}\n{\"end\":true}\n";
+    CHECK(text_of("left.stream").find(of_left) != std::string::npos);
+    CHECK(text_of("a.stream").find(of_a) != std::string::npos);
+}
+
 int main(int, char **words)
 {
     if (words[1] == nullptr || chdir(words[1]) != 0)
         return 2;
     for (auto test : {test_a_recording, test_destruction, test_moves, test_strands, test_the_order_of_destruction,
-                      test_refusals, test_locks, test_notes})
+                      test_refusals, test_locks, test_notes, test_mutexes})
         test();
     return failures != 0;
 }

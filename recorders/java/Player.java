@@ -20,7 +20,11 @@ import java.util.concurrent.ExecutorService;
 import java.util.concurrent.Executors;
 import java.util.concurrent.Future;
 import java.util.function.IntConsumer;
+import java.util.function.ObjIntConsumer;
+import java.util.stream.IntStream;
 import java.util.stream.Stream;
+import monitor.RecordedLock;
+import monitor.RecordedQueue;
 import monitor.Recorder;
 import monitor.Recorder.Detail;
 import monitor.Recorder.NotRecordedException;
@@ -32,6 +36,9 @@ final class Player {
     private Recorder recorder;
     /** The note of the call, if it has one. */
     private List<Detail> said = List.of();
+    /** What threads share, by its names. */
+    private final Map<String, RecordedLock> locks = new HashMap<>();
+    private final Map<String, RecordedQueue<String>> queues = new HashMap<>();
     private int total;
 
     public static void main(String[] arguments) throws IOException {
@@ -91,7 +98,12 @@ final class Player {
             case "close" -> close();
             case "threads" -> run(words.get(0), thread -> takeTurns(thread, Integer.parseInt(words.get(1))));
             case "flood" -> run(words.get(0), thread -> sendAll());
-            case "send-text", "locked", "unlocked", "lock", "unlock", "put", "take" -> throw new UnsupportedOperationException(call);
+            case "lock" -> recorder.within(() -> locks.computeIfAbsent(words.get(0), name -> new RecordedLock()).lock());
+            case "unlock" -> recorder.within(() -> locks.get(words.get(0)).unlock());
+            case "put" -> recorder.within(() -> queueOf(words.get(0)).add("a value"));
+            case "take" -> recorder.within(() -> queueOf(words.get(0)).remove());
+            case "locked", "unlocked" -> contend(words.get(0), Integer.parseInt(words.get(1)), call.equals("locked"));
+            case "send-text" -> throw new UnsupportedOperationException(call);
             default -> throw new IllegalStateException("no call " + call);
         }
         return null;
@@ -114,6 +126,8 @@ final class Player {
     private void begin(String process, Recorder made) {
         recorder = made;
         recorders.clear();
+        locks.clear();
+        queues.clear();
         recorders.put(process, made);
     }
 
@@ -128,16 +142,41 @@ final class Player {
         }
     }
 
+    private RecordedQueue<String> queueOf(String name) {
+        return queues.computeIfAbsent(name, any -> new RecordedQueue<>());
+    }
+
     private void takeStrands(String count, int turns) throws IOException {
+        withStrands(count, turns, (strand, turn) -> strand.event(set("x", turn)));
+    }
+
+    /** Has strands go inside by turns, by a lock if they are to have one. */
+    private void contend(String count, int turns, boolean isLocked) throws IOException {
+        RecordedLock lock = new RecordedLock();
+        withStrands(count, turns, (strand, turn) -> {
+            if (isLocked) {
+                lock.lock();
+            }
+            try {
+                strand.event(set("x", 1));
+                strand.event(set("x", 0));
+            } finally {
+                if (isLocked) {
+                    lock.unlock();
+                }
+            }
+        });
+    }
+
+    /** Runs so many threads, each within a strand of its own that takes turns. */
+    private void withStrands(String count, int turns, ObjIntConsumer<Recorder> turn) throws IOException {
         List<Recorder> strands = new ArrayList<>();
         for (int number = 0; number < Integer.parseInt(count); number++) {
             strands.add(recorder.strand("strand" + number));
         }
         run(count, thread -> {
             try (Recorder strand = strands.get(thread)) {
-                for (int turn = 0; turn < turns; turn++) {
-                    strand.event(set("x", turn));
-                }
+                strand.within(() -> IntStream.range(0, turns).forEach(number -> turn.accept(strand, number)));
             }
         });
         strands.forEach(strand -> recorder.join(strand));

@@ -19,8 +19,12 @@ import java.time.Duration;
 import java.util.ArrayList;
 import java.util.List;
 import java.util.concurrent.Callable;
+import java.util.concurrent.TimeUnit;
+import java.util.concurrent.locks.Condition;
 import java.util.concurrent.locks.LockSupport;
 import java.util.stream.Stream;
+import monitor.RecordedLock;
+import monitor.RecordedQueue;
 import monitor.Recorder;
 import monitor.Recorder.NotRecordedException;
 import monitor.Recorder.Option;
@@ -59,6 +63,10 @@ final class RecorderTest {
         whereThereIsNoPlaceForNotes(folder.resolve("no-place"));
         filesThatAreReplaced(folder.resolve("replaced"));
         afterANoteThatCouldNotBeWrittenNothingIs(folder.resolve("full"));
+        aLockIsReentrant(folder.resolve("reentrant"));
+        aLockThatIsRefusedIsNotHeld(folder.resolve("not-held"));
+        aLockIsReleasedWhileAConditionIsWaitedFor(folder.resolve("condition"));
+        elementsOfAQueue(folder.resolve("queue"));
         System.out.println("java: " + wrong + " wrong");
         System.exit(wrong == 0 ? 0 : 1);
     }
@@ -427,6 +435,120 @@ final class RecorderTest {
             seeRefused(Reason.BROKEN, left::event);
         }
         see(Files.readString(path), JOIN);
+    }
+
+    private static void aLockIsReentrant(Path folder) throws IOException {
+        Recorder left = leftIn(folder);
+        Recorder a = left.strand("a");
+        RecordedLock lock = new RecordedLock(true);
+        lock.lock(); // nobody records this
+        lock.unlock();
+        a.within(() -> {
+            lock.lock();
+            see(lock.tryLock(), true);
+            lock.unlock();
+            see(lock.isHeldByCurrentThread(), true);
+            left.within(() -> see(Recorder.current(), left));
+            see(Recorder.current(), a);
+            lock.unlock();
+            see(lock.isLocked(), false);
+        });
+        see(Recorder.current() == null, true);
+        seeThrown(IllegalMonitorStateException.class, () -> a.call(() -> {
+            lock.unlock();
+            return "released";
+        }));
+        left.end();
+        see(textOf(folder, "a"), "{\"process\":\"a\"}\n{\"recv\":\"left-1\"}\n{\"send\":\"a-1\"}\n" + END);
+    }
+
+    private static void aLockThatIsRefusedIsNotHeld(Path folder) throws Exception {
+        Recorder left = leftIn(folder);
+        Recorder a = left.strand("a");
+        Recorder b = left.strand("b");
+        RecordedLock lock = new RecordedLock();
+        a.within(lock::lock);
+        a.within(lock::unlock);
+        b.end();
+        seeRefused(Reason.ENDED, () -> b.within(lock::lock));
+        seeRefused(Reason.ENDED, () -> b.within(lock::tryLock));
+        see(lock.isLocked(), false);
+        see(lock.tryLock(1, TimeUnit.SECONDS), true);
+        seeRefused(Reason.ENDED, () -> b.within(lock::unlock));
+        see(lock.isLocked(), false);
+        left.within(lock::lock); // what nobody could receive is there still
+        left.end();
+        see(textOf(folder, "left").endsWith("{\"recv\":\"a-1\"}\n" + END), true);
+    }
+
+    private static void aLockIsReleasedWhileAConditionIsWaitedFor(Path folder) throws Exception {
+        Recorder left = leftIn(folder);
+        Recorder a = left.strand("a");
+        Recorder b = left.strand("b");
+        RecordedLock lock = new RecordedLock();
+        Condition changed = lock.newCondition();
+        boolean[] isThere = {false};
+        Thread waiting = new Thread(() -> b.within(() -> {
+            lock.lock();
+            while (!isThere[0]) {
+                changed.awaitUninterruptibly();
+            }
+            b.event(set("x", 1));
+            lock.unlock();
+        }));
+        waiting.start();
+        while (b.events() < 2) { // it waits once it has sent
+            Thread.sleep(1);
+        }
+        a.within(() -> {
+            lock.lock();
+            isThere[0] = true;
+            changed.signalAll();
+            lock.unlock();
+        });
+        waiting.join();
+        seeThrown(IllegalMonitorStateException.class, () -> a.call(() -> changed.awaitNanos(1)));
+        left.end();
+        see(textOf(folder, "a").endsWith("\n{\"recv\":\"b-1\"}\n{\"send\":\"a-1\"}\n" + END), true);
+        see(textOf(folder, "b").endsWith("\n{\"send\":\"b-1\"}\n{\"recv\":\"a-1\"}\n{\"set\":{\"x\":1}}\n{\"send\":\"b-2\"}\n"
+                + END), true);
+    }
+
+    private static void elementsOfAQueue(Path folder) throws Exception {
+        Recorder left = leftIn(folder);
+        Recorder a = left.strand("a");
+        Recorder b = left.strand("b");
+        RecordedQueue<String> queue = new RecordedQueue<>(3);
+        a.call(() -> {
+            queue.put("1");
+            see(queue.offer("2", 1, TimeUnit.SECONDS), true);
+            see(queue.add("3"), true);
+            see(queue.offer("lost"), false);
+            see(queue.remainingCapacity(), 0);
+            see(queue.toString(), "[1, 2, 3]");
+            see(queue.remove("2"), true);
+            return null;
+        });
+        seeThrown(NullPointerException.class, () -> a.call(() -> queue.offer(null)));
+        b.call(() -> {
+            see(queue.peek(), "1");
+            see(queue.take(), "1");
+            List<String> rest = new ArrayList<>();
+            see(queue.drainTo(rest), 1);
+            see(rest, List.of("3"));
+            see(queue.poll() == null, true);
+            see(queue.poll(1, TimeUnit.MILLISECONDS) == null, true);
+            queue.put("mine");
+            return null;
+        });
+        see(b.call(queue::take), "mine"); // which is no receipt of its own
+        queue.put("nobody's");
+        see(a.call(queue::take), "nobody's");
+        left.end();
+        String sends = "{\"send\":\"a-1\"}\n{\"send\":\"a-2\"}\n{\"send\":\"a-3\"}\n{\"send\":\"a-4\"}\n";
+        see(textOf(folder, "a").endsWith("\"left-1\"}\n" + sends + END), true);
+        see(textOf(folder, "b").endsWith(
+                "\"left-2\"}\n{\"recv\":\"a-1\"}\n{\"recv\":\"a-3\"}\n{\"send\":\"b-1\"}\n" + END), true);
     }
 
     private static Recorder strandOf(Recorder recorder, String name) {

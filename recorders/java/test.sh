@@ -14,7 +14,7 @@ cd "$here" || exit 1
 # Programs that end soon need no better compiler and no other collector.
 export JAVA_TOOL_OPTIONS="-XX:TieredStopAtLevel=1 -XX:+UseSerialGC"
 http=monitor/http
-javac -Xlint:all -Werror -d "$folder" monitor/Recorder.java RecorderTest.java Player.java HttpTest.java \
+javac -Xlint:all -Werror -d "$folder" monitor/*.java RecorderTest.java Player.java HttpTest.java \
   "$http"/{CurrentRecorder,Faults,ServerSide,RecordingClient,RecordingExchangeFilter}.java \
   && timeout 300 java -cp "$folder" RecorderTest "$folder" \
   && timeout 300 java -cp "$folder" HttpTest "$folder/http" || exit 1

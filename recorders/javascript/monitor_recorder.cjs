@@ -64,6 +64,10 @@ const STATES = { ended: "has ended", broken: "is broken off, since a line could 
 const CODE_BYTES = 56;
 
 const current = new AsyncLocalStorage();
+// What a recorder does for locks and queues: `placeFor` gives the place of a call, if events have notes, and
+// `receiveFrom` records a receipt of the current recorder, if another one has sent that, and says whether it has.
+let placeFor;
+let receiveFrom;
 
 /** A call was refused and wrote nothing: `reason` is a word for why, and the message says it. */
 class NotRecorded extends Error {
@@ -88,6 +92,16 @@ class Recorder {
   #made = 0;
   #ids = new Set();
   #names = new Set();
+
+  static {
+    placeFor = (recorder) => recorder?.#notes && placeOfCaller();
+    receiveFrom = (sent, place) => {
+      const recorder = Recorder.current();
+      const isMessage = recorder !== undefined && sent !== undefined && sent.by !== recorder;
+      if (isMessage) recorder.#record("recv", sent.message, {}, { place });
+      return isMessage;
+    };
+  }
 
   /** Records to a file, a pipe or the like that is open for writing, which is closed with the recorder. */
   constructor(process, descriptor) {
@@ -361,12 +375,13 @@ class Recorder {
 
   /**
    * Writes the note of the event whose line is written next, if the events have notes: so each event that a stream has
-   * has its note. If the call comes from no other file, as where a function of a strand has ended, it is `at` that place.
+   * has its note. If the call comes from no other file, as where a function of a strand has ended, it is `at` that place;
+   * and at another one than this if that is known, as by who began to wait for a lock.
    */
-  #note({ text = "", at = "" }) {
+  #note({ text = "", place, at = "" }) {
     if (this.#notes === undefined) return;
     this.#state = BROKEN;
-    this.#notes.write(noteOf(this.#process, this.#events + 1, text, placeOfCaller() || at));
+    this.#notes.write(noteOf(this.#process, this.#events + 1, text, place || placeOfCaller() || at));
   }
 
   // With the limits above no line has over 1,400 bytes, and no stream over 14,000,000: monitor takes more.
@@ -374,6 +389,121 @@ class Recorder {
     this.#state = BROKEN;
     this.#out.write(`${line}\n`);
     this.#state = OPEN;
+  }
+}
+
+/** The message that goes with what tasks share: a send of the current recorder, if there is one. */
+function sentByCurrent() {
+  const by = Recorder.current();
+  return by && { by, message: by.send() };
+}
+
+/**
+ * A lock between tasks, whose release is a message to whoever acquires it next: a send of the current recorder and a
+ * receipt, if that is another one. So what the lock keeps apart is kept apart in the recording. But the order in which
+ * it was acquired is a cause then, and no other order is judged. Those who wait get it in their order.
+ */
+class RecordedLock {
+  #isHeld = false;
+  #waiting = new Fifo();
+  #sent;
+
+  /** Waits until the lock is free, holds it, and records the receipt. If that is refused the lock isn't held. */
+  async acquire() {
+    const at = placeFor(Recorder.current());
+    if (this.#isHeld) await new Promise((resolve) => this.#waiting.put(resolve));
+    this.#isHeld = true;
+    try {
+      if (receiveFrom(this.#sent, at)) this.#sent = undefined;
+    } catch (error) {
+      this.#release();
+      throw error;
+    }
+  }
+
+  /** Records the send, and releases the lock, whatever becomes of the send. */
+  release() {
+    if (!this.#isHeld) throw new Error("a lock is released that nobody holds");
+    try {
+      this.#sent = sentByCurrent() ?? this.#sent;
+    } finally {
+      this.#release();
+    }
+  }
+
+  /** Calls a function, and holds the lock until what it gives has settled, which is given back. */
+  async hold(work) {
+    await this.acquire();
+    try {
+      return await work();
+    } finally {
+      this.release();
+    }
+  }
+
+  get isHeld() {
+    return this.#isHeld;
+  }
+
+  #release() {
+    const next = this.#waiting.take();
+    if (next === undefined) this.#isHeld = false;
+    else next(); // it is held by the next one from now on
+  }
+}
+
+/**
+ * A queue between tasks, whose values are messages: to put one in is a send of the current recorder, and to take it out
+ * a receipt, if that is another one. What no recorder puts in or takes out is no message.
+ */
+class RecordedQueue {
+  #values = new Fifo();
+  #waiting = new Fifo();
+
+  /** Records the send, and puts the value in. */
+  put(value) {
+    const carried = { value, sent: sentByCurrent() };
+    const next = this.#waiting.take();
+    if (next === undefined) this.#values.put(carried);
+    else next(carried);
+  }
+
+  /** Waits for a value, takes it out, and records the receipt. If that is refused the value is lost with it. */
+  async take() {
+    const at = placeFor(Recorder.current());
+    const carried = this.#values.take() ?? (await new Promise((resolve) => this.#waiting.put(resolve)));
+    receiveFrom(carried.sent, at);
+    return carried.value;
+  }
+
+  /** How many values are in it. */
+  get size() {
+    return this.#values.size;
+  }
+}
+
+/** What is taken in the order in which it was put. */
+class Fifo {
+  #all = [];
+  #first = 0;
+
+  put(one) {
+    this.#all.push(one);
+  }
+
+  take() {
+    const one = this.#all[this.#first];
+    if (one === undefined) return undefined;
+    this.#all[this.#first++] = undefined;
+    if (2 * this.#first > this.#all.length) {
+      this.#all = this.#all.slice(this.#first);
+      this.#first = 0;
+    }
+    return one;
+  }
+
+  get size() {
+    return this.#all.length - this.#first;
   }
 }
 
@@ -766,6 +896,8 @@ function checkedValue(name, value) {
 
 module.exports = {
   Recorder,
+  RecordedLock,
+  RecordedQueue,
   NotRecorded,
   EVENT_LIMIT,
   VARIABLE_LIMIT,

@@ -60,6 +60,39 @@ export class NotRecorded extends Error {
 /** Variables, and the values that they have from now on: whole numbers, or true for 1 and false for 0. */
 export type Variables = Readonly<Record<string, number | bigint | boolean>>;
 
+/**
+ * A lock between tasks, whose release is a message to whoever acquires it next: a send of the current recorder and a
+ * receipt, if that is another one. So what the lock keeps apart is kept apart in the recording. But the order in which
+ * it was acquired is a cause then, and no other order is judged. Those who wait get it in their order.
+ */
+export class RecordedLock {
+  /** Waits until the lock is free, holds it, and records the receipt. If that is refused the lock isn't held. */
+  acquire(): Promise<void>;
+
+  /** Records the send, and releases the lock, whatever becomes of the send. */
+  release(): void;
+
+  /** Calls a function, and holds the lock until what it gives has settled, which is given back. */
+  hold<T>(work: () => T): Promise<Awaited<T>>;
+
+  get isHeld(): boolean;
+}
+
+/**
+ * A queue between tasks, whose values are messages: to put one in is a send of the current recorder, and to take it out
+ * a receipt, if that is another one. What no recorder puts in or takes out is no message.
+ */
+export class RecordedQueue<T = unknown> {
+  /** Records the send, and puts the value in. */
+  put(value: T): void;
+
+  /** Waits for a value, takes it out, and records the receipt. If that is refused the value is lost with it. */
+  take(): Promise<T>;
+
+  /** How many values are in it. */
+  get size(): number;
+}
+
 /** The text of an event's note. It says nothing if events have no notes. */
 export type Noted = Readonly<{ note: string }>;
 

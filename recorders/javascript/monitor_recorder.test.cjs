@@ -10,7 +10,7 @@ const { test } = require("node:test");
 const { setTimeout: sleep } = require("node:timers/promises");
 const recording = require("./monitor_recorder.cjs");
 
-const { NotRecorded, Recorder } = recording;
+const { NotRecorded, RecordedLock, RecordedQueue, Recorder } = recording;
 const FILE = path.join(__dirname, "monitor_recorder.cjs");
 const EXAMPLES = path.join(__dirname, "..", "..", "examples");
 const MONITOR = path.resolve(process.env.MONITOR ?? path.join(EXAMPLES, "..", "crates", "monitor", "out", "monitor"));
@@ -170,7 +170,8 @@ test("the types name what the module has", () => {
   assert.deepEqual(named.sort(), Object.keys(recording).sort());
   const found = [...types.matchAll(/^ {2}(?:static |get )?(\w+)(?:<T>)?\(/gm)].map((method) => method[1]);
   const methods = [...new Set(found)];
-  const members = [...Object.getOwnPropertyNames(Recorder), ...Object.getOwnPropertyNames(Recorder.prototype)];
+  const kinds = [Recorder, Recorder.prototype, RecordedLock.prototype, RecordedQueue.prototype];
+  const members = kinds.flatMap((kind) => Object.getOwnPropertyNames(kind));
   const others = ["length", "name", "prototype"];
   assert.deepEqual(new Set(methods), new Set(members.filter((name) => !others.includes(name))));
 });
@@ -298,6 +299,23 @@ test("notes of tasks", async () => {
   ]);
 });
 
+test("notes of what tasks share", async () => {
+  const { recorder, at } = openedWithNotes();
+  const [a, b] = [recorder.strand("a"), recorder.strand("b")];
+  const lock = new RecordedLock();
+  const queue = new RecordedQueue();
+  await a.within(async () => lock.hold(() => sleep(1))); // by a
+  await b.within(async () => lock.acquire()); // by b
+  const taken = a.within(async () => queue.take()); // it waits
+  b.within(() => queue.put("value"));
+  assert.equal(await taken, "value");
+  recorder.end();
+  assert.deepEqual(notesIn(at, "a").slice(2), [["", "const taken = a.within(async () => queue.take()); // it waits"]]);
+  const [[, locked], [, put]] = notesIn(at, "b").slice(1);
+  assert.equal(locked, "await b.within(async () => lock.acquire()); // by b");
+  assert.equal(put, 'b.within(() => queue.put("value"));');
+});
+
 test("what is no note, and no place for one", async () => {
   const { recorder, text } = opened();
   for (const options of [null, "a text", 7, {}, { note: 7 }]) {
@@ -355,6 +373,68 @@ test("after a note that could not be written nothing is", () => {
   refused("broken", () => recorder.event());
   recorder.close();
   assert.equal(fs.readFileSync(path.join(at, "left.stream"), "utf8"), JOIN);
+});
+
+test("a lock is held by one, in the order of those who wait", async () => {
+  const { recorder, text } = openedWithStrands();
+  const strands = ["a", "b", "c"].map((name) => recorder.strand(name));
+  const lock = new RecordedLock();
+  let inside = 0;
+  const work = async () => {
+    assert.equal(++inside, 1);
+    await sleep(1);
+    Recorder.current().event({ x: 1 });
+    inside--;
+    return Recorder.current().events;
+  };
+  const done = strands.map((strand) => strand.within(() => lock.hold(work)));
+  assert.deepEqual(await Promise.all(done), [2, 3, 3]);
+  assert.equal(lock.isHeld, false);
+  await assert.rejects(strands[0].within(() => lock.hold(fail)), /something/);
+  assert.throws(() => lock.release(), /nobody holds/);
+  recorder.end();
+  assert.ok(text("b").endsWith(`{"recv":"a-1"}\n{"set":{"x":1}}\n{"send":"b-1"}\n${END}`), text("b"));
+  assert.ok(text("c").endsWith(`{"recv":"b-1"}\n{"set":{"x":1}}\n{"send":"c-1"}\n${END}`), text("c"));
+  assert.ok(text("a").endsWith(`{"send":"a-1"}\n{"recv":"c-1"}\n{"send":"a-2"}\n${END}`), text("a"));
+});
+
+test("a lock that is refused isn't held, and one without recorders records nothing", async () => {
+  const { recorder, text } = openedWithStrands();
+  const [a, b] = [recorder.strand("a"), recorder.strand("b")];
+  const lock = new RecordedLock();
+  await a.within(() => lock.hold(() => undefined));
+  b.end();
+  const waiting = b.within(() => lock.acquire());
+  await assert.rejects(waiting, { reason: "ended" });
+  assert.equal(lock.isHeld, false);
+  await lock.acquire();
+  const third = b.within(() => lock.acquire());
+  const fourth = lock.acquire();
+  lock.release();
+  await assert.rejects(third, { reason: "ended" }); // and the next one who waits gets it
+  await fourth;
+  await assert.rejects(async () => b.within(() => lock.release()), { reason: "ended" });
+  assert.equal(lock.isHeld, false);
+  recorder.end();
+  assert.ok(text("a").endsWith(`{"send":"a-1"}\n${END}`));
+});
+
+test("values of a queue in their order", async () => {
+  const { recorder, text } = openedWithStrands();
+  const [a, b] = [recorder.strand("a"), recorder.strand("b")];
+  const queue = new RecordedQueue();
+  const waiting = [b.within(() => queue.take()), queue.take()];
+  for (let value = 0; value < 10; value++) a.within(() => queue.put(value));
+  queue.put(undefined);
+  assert.equal(queue.size, 9);
+  assert.deepEqual(await Promise.all(waiting), [0, 1]);
+  for (let value = 2; value < 10; value++) waiting.push(b.within(() => queue.take()));
+  waiting.push(b.within(() => queue.take()));
+  assert.deepEqual(await Promise.all(waiting), [0, 1, 2, 3, 4, 5, 6, 7, 8, 9, undefined]);
+  assert.equal(queue.size, 0);
+  recorder.end();
+  const received = [1, 3, 4, 5, 6, 7, 8, 9, 10].map((number) => `{"recv":"a-${number}"}\n`);
+  assert.ok(text("b").endsWith(`{"recv":"left-2"}\n${received.join("")}${END}`), text("b"));
 });
 
 test("async functions have their own strand as the current one", async () => {

@@ -1,6 +1,6 @@
 // What the types of the recorder take and refuse: nothing of it is run. With TypeScript 4.7 or later:
 // tsc --strict --noEmit --module node16 --moduleResolution node16 --target es2022 monitor_recorder.types.mts
-import { EVENT_LIMIT, NotRecorded, Reason, Recorder } from "./monitor_recorder.cjs";
+import { EVENT_LIMIT, NotRecorded, Reason, RecordedLock, RecordedQueue, Recorder } from "./monitor_recorder.cjs";
 
 export async function takes(descriptor: number): Promise<Reason | undefined> {
   const left = Recorder.toFile("left", "left.stream");
@@ -32,12 +32,18 @@ export async function takes(descriptor: number): Promise<Reason | undefined> {
   return undefined;
 }
 
-export async function takesNotes(): Promise<void> {
+export async function takesNotes(): Promise<number> {
   const left = Recorder.toFile("left", "left.stream", { notes: true, replace: true });
   left.event({ inside: 1 }, { note: "a text" });
   const id: string = left.send({ inside: 0 }, { note: "a text" }) + left.send("own", {}, { note: "a text" });
   left.receive(id, {}, { note: "a text" });
   (await Recorder.fromEnvironment("right", { replace: true })).end();
+  const queue = new RecordedQueue<number>();
+  queue.put(7);
+  const lock = new RecordedLock();
+  await lock.acquire();
+  lock.release();
+  return lock.hold(() => queue.take());
 }
 
 export function refuses(left: Recorder): void {

@@ -2,13 +2,13 @@
 /** Makes the calls that it is told on its standard input, with the recorder for Node: see recorders/cases/README.md. */
 const { setImmediate: pause } = require("node:timers/promises");
 const readline = require("node:readline");
-const { NotRecorded, Recorder } = require("./monitor_recorder.cjs");
-
-const CANNOT = new Error("JavaScript has no such call");
+const { NotRecorded, RecordedLock, RecordedQueue, Recorder } = require("./monitor_recorder.cjs");
 
 let recorder;
 let recorders;
 let options; // of the call, if it has a note
+let locks; // what tasks share, by its names
+let queues;
 
 const calls = {
   file: (process, path) => begin(process, Recorder.toFile(textOf(process), textOf(path))),
@@ -30,22 +30,25 @@ const calls = {
   close: () => recorder?.close(),
   threads: (count, turns) => run(Number(count), takeTurns, Number(turns)),
   flood: (count) => run(Number(count), sendAll),
-  locked: cannot,
-  unlocked: cannot,
-  lock: cannot,
-  unlock: cannot,
-  put: cannot,
-  take: cannot,
+  locked: (count, turns) => contend(Number(count), Number(turns), new RecordedLock()),
+  unlocked: (count, turns) => contend(Number(count), Number(turns)),
+  lock: (name) => recorder.within(() => named(locks, name, RecordedLock).acquire()),
+  unlock: (name) => recorder.within(() => named(locks, name, RecordedLock).release()),
+  put: (name) => recorder.within(() => named(queues, name, RecordedQueue).put("a value")),
+  take: (name) => recorder.within(async () => void (await named(queues, name, RecordedQueue).take())),
   strands: (count, turns) => takeStrands(Number(count), Number(turns)),
 };
 
-function cannot() {
-  throw CANNOT;
+/** What tasks share by this name. */
+function named(all, name, kind) {
+  if (!all.has(name)) all.set(name, new kind());
+  return all.get(name);
 }
 
 function begin(process, made) {
   recorder = made;
   recorders = new Map([[process, made]]);
+  [locks, queues] = [new Map(), new Map()];
 }
 
 /** Makes the call by the recorder of a strand. */
@@ -109,6 +112,23 @@ async function takeStrands(count, turns) {
   for (const strand of strands) recorder.join(strand);
 }
 
+/** Has strands go inside by turns, by a lock if there is one. */
+async function contend(count, turns, lock) {
+  const strands = Array.from({ length: count }, (_, number) => recorder.strand(`strand${number}`));
+  await Promise.all(strands.map((strand) => strand.within(() => goInside(turns, lock))));
+  for (const strand of strands) recorder.join(strand);
+}
+
+async function goInside(turns, lock) {
+  const go = async () => {
+    Recorder.current().event({ x: 1 });
+    await pause();
+    Recorder.current().event({ x: 0 });
+  };
+  for (let turn = 0; turn < turns; turn++) await (lock ? lock.hold(go) : go());
+  Recorder.current().end();
+}
+
 async function takeStrand(turns) {
   for (let turn = 0; turn < turns; turn++) {
     await pause();
@@ -133,7 +153,6 @@ async function answer(call, words) {
     const given = await calls[call](...words);
     return given === undefined ? "recorded" : `recorded ${given}`;
   } catch (error) {
-    if (error === CANNOT) return "cannot";
     if (error instanceof NotRecorded) return `refused ${error.reason}`;
     if (error.syscall) return "failed";
     throw error;

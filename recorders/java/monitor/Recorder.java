@@ -24,6 +24,7 @@ import java.util.List;
 import java.util.Locale;
 import java.util.Set;
 import java.util.StringJoiner;
+import java.util.concurrent.Callable;
 import java.util.regex.Matcher;
 import java.util.regex.Pattern;
 
@@ -95,6 +96,7 @@ public final class Recorder implements AutoCloseable {
     private static final int PORT_LIMIT = 65_534;
     private static final String ENDING = ".stream";
     private static final String NOTES_ENDING = ".notes.jsonl";
+    private static final ThreadLocal<Recorder> CURRENT = new ThreadLocal<>();
     private static final String OWN = Recorder.class.getPackageName() + ".Record";
 
     /** How a file is recorded to. */
@@ -455,6 +457,33 @@ public final class Recorder implements AutoCloseable {
     /** The name of the process, or of the strand, that is recorded. */
     public String process() {
         return process;
+    }
+
+    /** The recorder within which this thread works, by which what threads share records; null if there is none. */
+    public static Recorder current() {
+        return CURRENT.get();
+    }
+
+    /** Does the work in this thread, of which this is the current recorder meanwhile. */
+    public void within(Runnable work) {
+        Recorder before = CURRENT.get();
+        CURRENT.set(this);
+        try {
+            work.run();
+        } finally {
+            CURRENT.set(before);
+        }
+    }
+
+    /** The same for work that gives something, or throws something else. */
+    public <T> T call(Callable<T> work) throws Exception {
+        Recorder before = CURRENT.get();
+        CURRENT.set(this);
+        try {
+            return work.call();
+        } finally {
+            CURRENT.set(before);
+        }
     }
 
     /** How many events are recorded. */

@@ -1,16 +1,22 @@
 //! Makes the calls that it is told on its standard input, with the recorder for Rust: see recorders/cases/README.md.
-use monitor_recorder::{Error, Options, Recorder, Setting};
+use monitor_recorder::{
+    recorded_channel, Error, Options, RecordedGuard, RecordedMutex, RecordedReceiver,
+    RecordedSender, Recorder, Setting,
+};
 use std::collections::HashMap;
 use std::io::{self, BufRead, Write};
 use std::sync::Mutex;
 use std::thread;
 use std::time::Duration;
 
-/// The strands of the process, by their names, and the text of the call's note.
+/// The strands of the process and what they share, by their names, and the text of the call's note.
 #[derive(Default)]
 struct Strands {
     recorders: HashMap<String, Recorder>,
     said: String,
+    held: HashMap<String, RecordedGuard<'static, ()>>,
+    locks: HashMap<String, &'static RecordedMutex<()>>,
+    channels: HashMap<String, (RecordedSender<()>, RecordedReceiver<()>)>,
 }
 
 /// What a call came to: an answer that begins with `recorded`, or an error.
@@ -116,6 +122,14 @@ fn make_open(
             strands.recorders.insert(words[0].to_owned(), strand);
             String::new()
         })),
+        "lock" | "unlock" | "put" | "take" => {
+            Some(share(recorder, strands, call, words[0]).map(nothing))
+        }
+        "locked" | "unlocked" => {
+            let mutex = RecordedMutex::new(());
+            let mutex = (call == "locked").then_some(&mutex);
+            Some(contend(recorder, mutex, number(words[0]), number(words[1])).map(nothing))
+        }
         "join" => Some(join(recorder, strands, words).map(nothing)),
         "strands" => Some(take_strands(recorder, number(words[0]), number(words[1])).map(nothing)),
         "events" => Some(Ok(recorder.events().to_string())),
@@ -123,6 +137,38 @@ fn make_open(
         "threads" => Some(threads(recorder, number(words[0]), number(words[1])).map(nothing)),
         "flood" => Some(flood(recorder, number(words[0])).map(nothing)),
         _ => record(recorder, &strands.said, call, words),
+    }
+}
+
+/// Makes a call of what threads share.
+fn share(recorder: &Recorder, strands: &mut Strands, call: &str, name: &str) -> Result<(), Error> {
+    let name = name.to_owned();
+    match call {
+        "lock" => {
+            let lock = *strands
+                .locks
+                .entry(name.clone())
+                .or_insert_with(|| Box::leak(Box::default()));
+            let guard = lock.lock(recorder)?;
+            strands.held.insert(name, guard);
+            Ok(())
+        }
+        "unlock" => strands
+            .held
+            .remove(&name)
+            .expect("a lock that is held")
+            .unlock(),
+        _ => {
+            let (sender, receiver) = strands
+                .channels
+                .entry(name)
+                .or_insert_with(recorded_channel);
+            if call == "take" {
+                return receiver.try_recv(recorder);
+            }
+            sender.send(recorder, ())?; // put
+            Ok(())
+        }
     }
 }
 
@@ -153,11 +199,8 @@ fn opened(place: &mut Option<Recorder>, made: Result<Recorder, Error>) -> Made {
 }
 
 fn record(recorder: &Recorder, said: &str, call: &str, words: &[&str]) -> Option<Made> {
-    if matches!(
-        call,
-        "send-text" | "lock" | "unlock" | "put" | "take" | "locked" | "unlocked"
-    ) {
-        return None; // `send` takes settings alone, and no lock or channel is recorded
+    if call == "send-text" {
+        return None; // `send` takes settings alone
     }
     let has_id = matches!(call, "send-as" | "receive");
     let id = if has_id {
@@ -233,12 +276,39 @@ fn threads(recorder: &Recorder, count: i64, turns: i64) -> Result<(), Error> {
 }
 
 fn take_strands(recorder: &Recorder, count: i64, turns: i64) -> Result<(), Error> {
+    with_strands(recorder, count, |strand| {
+        (0..turns).try_for_each(|turn| strand.event(&[("x", turn)]))
+    })
+}
+
+/// Has strands go inside by turns, by a lock if there is one.
+fn contend(
+    recorder: &Recorder,
+    mutex: Option<&RecordedMutex<()>>,
+    count: i64,
+    turns: i64,
+) -> Result<(), Error> {
+    with_strands(recorder, count, |strand| {
+        (0..turns).try_for_each(|_| {
+            let _guard = mutex.map(|mutex| mutex.lock(strand)).transpose()?;
+            strand.event(&[("x", 1)])?;
+            strand.event(&[("x", 0)])
+        })
+    })
+}
+
+/// Runs a thread for each of so many strands, and joins them.
+fn with_strands(
+    recorder: &Recorder,
+    count: i64,
+    work: impl Fn(&Recorder) -> Result<(), Error> + Sync,
+) -> Result<(), Error> {
     let strands = (0..count)
         .map(|number| recorder.strand(&format!("strand{number}")))
         .collect::<Result<Vec<_>, _>>()?;
     run(count, |thread| {
         let strand = &strands[usize::try_from(thread).expect("a thread's number")];
-        (0..turns).try_for_each(|turn| strand.event(&[("x", turn)]))?;
+        work(strand)?;
         strand.end()
     })?;
     strands

@@ -41,16 +41,19 @@
 //!
 //! Events have no names. With [`Options::notes`] each has a note in left.notes.jsonl, of the line of the program that
 //! recorded it, and of a text if one is given, as by `left.noted("the lock is ours").event(&[("inside", 1)])`.
+use std::cell::Cell;
 use std::collections::HashSet;
 use std::env;
 use std::fmt;
 use std::fs::{self, File, OpenOptions};
 use std::io::{self, Write};
 use std::net::{Ipv4Addr, TcpStream};
+use std::ops::{Deref, DerefMut};
 use std::panic::Location;
 use std::path::{Path, PathBuf};
 use std::process;
-use std::sync::{Arc, Mutex, MutexGuard, PoisonError};
+use std::sync::mpsc::{self, TryRecvError};
+use std::sync::{Arc, Mutex, MutexGuard, PoisonError, TryLockError};
 use std::thread;
 use std::time::{Duration, Instant, SystemTime, UNIX_EPOCH};
 
@@ -113,6 +116,12 @@ pub enum Error {
     /// There is no place for notes, since this is a port, or a file whose name doesn't end with `.stream`; or it is the
     /// text of `MONITOR_NOTES`, and is neither 1 nor 0.
     Notes(String),
+    /// A thread panicked while it held the [`RecordedMutex`].
+    Poisoned,
+    /// There is nobody any more at the other end of a [`recorded_channel`].
+    Disconnected,
+    /// There is no value in a [`recorded_channel`].
+    Empty,
     /// The system could not open or write the recording; a part of the line may have been written.
     Io(io::Error),
 }
@@ -142,6 +151,9 @@ impl fmt::Display for Error {
             Error::Ended => write!(to, "the recording has ended"),
             Error::Broken => write!(to, "an earlier line could not be written"),
             Error::Io(error) => write!(to, "the recording could not be opened or written: {error}"),
+            Error::Poisoned => write!(to, "a thread panicked while it held the mutex"),
+            Error::Disconnected => write!(to, "nobody is at the other end of the channel"),
+            Error::Empty => write!(to, "the channel is empty"),
             _ => self.fmt_of_strands(to),
         }
     }
@@ -975,4 +987,275 @@ fn connection_now(port: u16) -> io::Result<TcpStream> {
     }
     connection.set_nodelay(true)?;
     Ok(connection)
+}
+
+/// A message that goes with what threads share.
+struct Sent {
+    process: String,
+    id: String,
+}
+
+impl Recorder {
+    /// Records the receipt of what another process has sent, if it has; then it is gone.
+    fn receive_sent(&self, sent: &mut Option<Sent>, place: Place) -> Result<(), Error> {
+        match sent {
+            Some(message) if message.process != self.process => {
+                let message = Some(("recv", &*message.id));
+                self.ready()?.record(message, &[], Note::at(place))?;
+                *sent = None;
+                Ok(())
+            }
+            _ => Ok(()),
+        }
+    }
+}
+
+/// A lock between threads, whose release is a message to whoever locks it next: a send of the recorder by which it was
+/// locked and a receipt, if that is by another one. So what the lock keeps apart is kept apart in the recording. But the
+/// order in which it was locked is a cause then, and no other order is judged.
+///
+/// ```no_run
+/// # fn work(worker: &monitor_recorder::Recorder) -> Result<(), monitor_recorder::Error> {
+/// let money = monitor_recorder::RecordedMutex::new(100);
+/// let mut guard = money.lock(worker)?; // a receipt, if another one has unlocked it
+/// *guard -= 30;
+/// guard.unlock() // a send; so does a guard that is dropped
+/// # }
+/// ```
+#[derive(Default)]
+pub struct RecordedMutex<T> {
+    held: Mutex<Held<T>>,
+}
+
+#[derive(Default)]
+struct Held<T> {
+    sent: Option<Sent>,
+    value: T,
+}
+
+impl<T> RecordedMutex<T> {
+    /// A lock that is free.
+    pub fn new(value: T) -> Self {
+        let held = Mutex::new(Held { sent: None, value });
+        RecordedMutex { held }
+    }
+
+    /// Waits until the lock is free, holds it, and records the receipt. With an error it isn't held.
+    #[track_caller]
+    pub fn lock(&self, recorder: &Recorder) -> Result<RecordedGuard<'_, T>, Error> {
+        let held = self.held.lock().map_err(|_| Error::Poisoned)?;
+        RecordedGuard::new(held, recorder, Location::caller())
+    }
+
+    /// The same, or nothing if the lock isn't free.
+    #[track_caller]
+    pub fn try_lock(&self, recorder: &Recorder) -> Result<Option<RecordedGuard<'_, T>>, Error> {
+        match self.held.try_lock() {
+            Ok(held) => RecordedGuard::new(held, recorder, Location::caller()).map(Some),
+            Err(TryLockError::WouldBlock) => Ok(None),
+            Err(TryLockError::Poisoned(_)) => Err(Error::Poisoned),
+        }
+    }
+}
+
+impl<T> fmt::Debug for RecordedMutex<T> {
+    fn fmt(&self, to: &mut fmt::Formatter<'_>) -> fmt::Result {
+        to.debug_struct("RecordedMutex").finish_non_exhaustive()
+    }
+}
+
+/// A [`RecordedMutex`] that is held, and what it keeps. It is released when this is dropped, with the send; its note has
+/// the place at which it was locked then.
+#[must_use = "a lock is released when its guard is dropped"]
+pub struct RecordedGuard<'a, T> {
+    held: MutexGuard<'a, Held<T>>,
+    process: String,
+    owner: u32,
+    recording: Arc<Mutex<Recording>>,
+    locked_at: Place,
+    is_sent: bool,
+}
+
+impl<'a, T> RecordedGuard<'a, T> {
+    fn new(
+        mut held: MutexGuard<'a, Held<T>>,
+        recorder: &Recorder,
+        place: Place,
+    ) -> Result<Self, Error> {
+        recorder.receive_sent(&mut held.sent, place)?;
+        Ok(RecordedGuard {
+            held,
+            process: recorder.process.clone(),
+            owner: recorder.owner,
+            recording: Arc::clone(&recorder.recording),
+            locked_at: place,
+            is_sent: false,
+        })
+    }
+
+    /// Records the send, and releases the lock, whatever becomes of the send. What is refused here is refused when the
+    /// guard is dropped too, but nobody is told then.
+    #[track_caller]
+    pub fn unlock(mut self) -> Result<(), Error> {
+        self.send(Location::caller())
+    }
+
+    fn send(&mut self, place: Place) -> Result<(), Error> {
+        self.is_sent = true;
+        let mut recording = ready(self.owner, &self.recording)?;
+        recording.check_room()?;
+        let id = recording.send_any(&[], Note::at(place))?;
+        self.held.sent = Some(Sent {
+            process: self.process.clone(),
+            id,
+        });
+        Ok(())
+    }
+}
+
+impl<T> Deref for RecordedGuard<'_, T> {
+    type Target = T;
+
+    fn deref(&self) -> &T {
+        &self.held.value
+    }
+}
+
+impl<T> DerefMut for RecordedGuard<'_, T> {
+    fn deref_mut(&mut self) -> &mut T {
+        &mut self.held.value
+    }
+}
+
+impl<T> Drop for RecordedGuard<'_, T> {
+    fn drop(&mut self) {
+        if !self.is_sent {
+            let _ = self.send(self.locked_at); // each later call of the recorder says what went wrong
+        }
+    }
+}
+
+impl<T: fmt::Debug> fmt::Debug for RecordedGuard<'_, T> {
+    fn fmt(&self, to: &mut fmt::Formatter<'_>) -> fmt::Result {
+        self.held.value.fmt(to)
+    }
+}
+
+/// A channel between threads, whose values are messages: to send one is a send of the recorder that is given, and to
+/// receive it a receipt, if that is by another one. What a channel tells who sends, as that another thread has the value,
+/// isn't recorded, and neither is that an end is gone: if that is to order anything, send a value for it.
+#[must_use]
+pub fn recorded_channel<T>() -> (RecordedSender<T>, RecordedReceiver<T>) {
+    let (sender, receiver) = mpsc::channel();
+    let returned = Cell::new(None);
+    (
+        RecordedSender { sender },
+        RecordedReceiver { receiver, returned },
+    )
+}
+
+/// The end of a [`recorded_channel`] into which values go. It can be cloned, for other threads.
+#[derive(Debug)]
+pub struct RecordedSender<T> {
+    sender: mpsc::Sender<Carried<T>>,
+}
+
+/// A value and its message.
+struct Carried<T> {
+    sent: Option<Sent>,
+    value: T,
+}
+
+/// A value that wasn't sent, and why.
+#[derive(Debug)]
+pub struct Unsent<T> {
+    /// The value.
+    pub value: T,
+    /// Why it wasn't sent: [`Error::Disconnected`], or why the recorder refused it.
+    pub error: Error,
+}
+
+impl<T> From<Unsent<T>> for Error {
+    fn from(unsent: Unsent<T>) -> Self {
+        unsent.error
+    }
+}
+
+impl<T> Clone for RecordedSender<T> {
+    fn clone(&self) -> Self {
+        let sender = self.sender.clone();
+        RecordedSender { sender }
+    }
+}
+
+impl<T> RecordedSender<T> {
+    /// Records the send, and sends the value. If nobody receives any more, the message was lost.
+    #[track_caller]
+    pub fn send(&self, recorder: &Recorder, value: T) -> Result<(), Unsent<T>> {
+        let id = match recorder.send(&[]) {
+            Ok(id) => id,
+            Err(error) => return Err(Unsent { value, error }),
+        };
+        let process = recorder.process.clone();
+        let sent = Some(Sent { process, id });
+        self.sender
+            .send(Carried { sent, value })
+            .map_err(|unsent| Unsent {
+                value: unsent.0.value,
+                error: Error::Disconnected,
+            })
+    }
+}
+
+/// The end of a [`recorded_channel`] from which values come.
+pub struct RecordedReceiver<T> {
+    receiver: mpsc::Receiver<Carried<T>>,
+    /// A value whose receipt was refused.
+    returned: Cell<Option<Carried<T>>>,
+}
+
+impl<T> fmt::Debug for RecordedReceiver<T> {
+    fn fmt(&self, to: &mut fmt::Formatter<'_>) -> fmt::Result {
+        to.debug_struct("RecordedReceiver").finish_non_exhaustive()
+    }
+}
+
+impl<T> RecordedReceiver<T> {
+    /// Waits for a value, and records the receipt. If that is refused, the next call gives the value.
+    #[track_caller]
+    pub fn recv(&self, recorder: &Recorder) -> Result<T, Error> {
+        let carried = match self.returned.take() {
+            Some(carried) => carried,
+            None => self.receiver.recv().map_err(|_| Error::Disconnected)?,
+        };
+        self.received(recorder, carried, Location::caller())
+    }
+
+    /// The same, but if there is no value it is [`Error::Empty`].
+    #[track_caller]
+    pub fn try_recv(&self, recorder: &Recorder) -> Result<T, Error> {
+        let carried = match self.returned.take() {
+            Some(carried) => carried,
+            None => self.receiver.try_recv().map_err(|error| match error {
+                TryRecvError::Empty => Error::Empty,
+                TryRecvError::Disconnected => Error::Disconnected,
+            })?,
+        };
+        self.received(recorder, carried, Location::caller())
+    }
+
+    fn received(
+        &self,
+        recorder: &Recorder,
+        mut carried: Carried<T>,
+        place: Place,
+    ) -> Result<T, Error> {
+        match recorder.receive_sent(&mut carried.sent, place) {
+            Ok(()) => Ok(carried.value),
+            Err(error) => {
+                self.returned.set(Some(carried));
+                Err(error)
+            }
+        }
+    }
 }

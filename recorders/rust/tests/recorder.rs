@@ -1,5 +1,5 @@
 //! Tests of the recorder that the shared cases can't say.
-use monitor_recorder::{Error, Options, Recorder};
+use monitor_recorder::{recorded_channel, Error, Options, RecordedMutex, Recorder};
 use std::fs;
 use std::io::{self, BufWriter, ErrorKind, Read, Write};
 use std::net::{TcpListener, TcpStream};
@@ -338,6 +338,33 @@ fn notes() {
     );
 }
 
+#[test]
+fn notes_of_what_threads_share() {
+    let folder = Folder::new("shared-notes");
+    let path = folder.0.join("left.stream");
+    let left = Options::new().notes(true).to_file("left", path).unwrap();
+    let (a, b) = (left.strand("a").unwrap(), left.strand("b").unwrap());
+    let mutex = RecordedMutex::new(());
+    drop(mutex.lock(&a)); // of a
+    mutex.lock(&b).unwrap().unlock().unwrap(); // of b
+    let (sender, receiver) = recorded_channel();
+    sender.send(&a, 7).unwrap();
+    receiver.recv(&b).unwrap();
+    left.end().unwrap();
+    let of_b = noted("", "mutex.lock(&b).unwrap().unlock().unwrap(); // of b");
+    assert_eq!(
+        notes_of(&folder, "a")[1..],
+        [
+            noted("", "drop(mutex.lock(&a)); // of a"),
+            noted("", "sender.send(&a, 7).unwrap();"),
+        ]
+    );
+    assert_eq!(
+        notes_of(&folder, "b")[1..],
+        [of_b.clone(), of_b, noted("", "receiver.recv(&b).unwrap();")]
+    );
+}
+
 fn names_in(folder: &Folder) -> Vec<String> {
     let entries = fs::read_dir(&folder.0).unwrap();
     let mut names: Vec<_> = entries
@@ -399,6 +426,81 @@ fn after_a_note_that_could_not_be_written_nothing_is() {
     assert!(matches!(left.event(&[]), Err(Error::Broken)));
     drop(left);
     assert_eq!(stream_of(&folder, "left"), JOIN);
+}
+
+#[test]
+fn a_mutex_and_what_it_keeps() {
+    let folder = Folder::new("mutex");
+    let left = opened_in(&folder);
+    let (a, b) = (left.strand("a").unwrap(), left.strand("b").unwrap());
+    let mutex = RecordedMutex::new(1);
+    let mut guard = mutex.lock(&a).unwrap();
+    *guard += 1;
+    assert!(mutex.try_lock(&b).unwrap().is_none());
+    assert_eq!(format!("{guard:?}"), "2");
+    guard.unlock().unwrap();
+    *mutex.lock(&a).unwrap() += 1; // no receipt of its own
+    b.end().unwrap();
+    assert!(matches!(mutex.lock(&b), Err(Error::Ended)));
+    let guard = mutex.try_lock(&left).unwrap().expect("it is free"); // the message is there still
+    assert_eq!(*guard, 3);
+    left.end().unwrap();
+    assert!(matches!(guard.unlock(), Err(Error::Ended)));
+    let poisoned = panic::catch_unwind(AssertUnwindSafe(|| {
+        let a = Recorder::new("a", io::sink()).unwrap();
+        let _guard = mutex.lock(&a).unwrap();
+        panic!("it is poisoned by this");
+    }));
+    assert!(poisoned.is_err());
+    let other = Recorder::new("other", io::sink()).unwrap();
+    assert!(matches!(mutex.lock(&other), Err(Error::Poisoned)));
+    assert!(matches!(mutex.try_lock(&other), Err(Error::Poisoned)));
+    let sends = "{\"send\":\"a-1\"}\n{\"send\":\"a-2\"}\n";
+    assert_eq!(
+        stream_of(&folder, "a"),
+        format!("{}{sends}{END}", begun("a", 1))
+    );
+    assert!(stream_of(&folder, "left").ends_with(&format!("\n{{\"recv\":\"a-2\"}}\n{END}")));
+}
+
+#[test]
+fn values_of_a_channel() {
+    let folder = Folder::new("channel");
+    let left = opened_in(&folder);
+    let (a, b) = (left.strand("a").unwrap(), left.strand("b").unwrap());
+    let (sender, receiver) = recorded_channel();
+    assert!(matches!(receiver.try_recv(&b), Err(Error::Empty)));
+    thread::scope(|scope| {
+        let sender = sender.clone();
+        let a = &a;
+        scope.spawn(move || (1..=3).for_each(|value| sender.send(a, value).unwrap()));
+        assert_eq!(receiver.recv(&b).unwrap(), 1);
+    });
+    b.end().unwrap();
+    for _ in 0..2 {
+        assert!(matches!(receiver.recv(&b), Err(Error::Ended)));
+    }
+    assert_eq!(receiver.try_recv(&left).unwrap(), 2); // which b has not received
+    assert_eq!(receiver.recv(&a).unwrap(), 3); // no receipt of its own
+    let unsent = sender.send(&b, 4).unwrap_err();
+    assert!(matches!((unsent.value, unsent.error), (4, Error::Ended)));
+    drop(receiver);
+    let unsent = sender.send(&a, 5).unwrap_err();
+    assert_eq!(unsent.value, 5);
+    assert!(matches!(Error::from(unsent), Error::Disconnected));
+    let (sender, receiver) = recorded_channel::<()>();
+    drop(sender);
+    assert!(matches!(receiver.recv(&left), Err(Error::Disconnected)));
+    assert!(matches!(receiver.try_recv(&left), Err(Error::Disconnected)));
+    left.end().unwrap();
+    let sends: String = (1..=4)
+        .map(|id| format!("{{\"send\":\"a-{id}\"}}\n"))
+        .collect();
+    assert_eq!(
+        stream_of(&folder, "a"),
+        format!("{}{sends}{END}", begun("a", 1))
+    );
+    assert!(stream_of(&folder, "left").ends_with(&format!("\n{{\"recv\":\"a-2\"}}\n{END}")));
 }
 
 #[test]
