@@ -16,66 +16,21 @@ What can't be brought into a session is refused with its file and line, and then
 The status is 0 if the session is written, 1 if the rules or the logs are refused, and 2 if the command line is."""
 import argparse
 import collections
-import contextlib
 import json
 import os
 import re
-import signal
 import sys
 
 import import_vector_clocks
-from importing import (PROCESS_LIMIT, Event, Refused, add_arguments, as_name, check_lengths, compiled, find_settings,
-                       name_processes, parsed, put_setting, run, session_in, value_of, written_folder)
+from importing import (LINE_BYTE_LIMIT, PROCESS_LIMIT, WATCH, Event, Refused, add_arguments, as_name, check_lengths,
+                       compiled, find_settings, name_processes, parsed, put_setting, run, session_in, value_of,
+                       written_folder)
 from monitor_recorder import EVENT_LIMIT, NotRecorded, checked_name, checked_variables
 
-ENTRY_BYTE_LIMIT = 16_384
-# So many seconds of the processor the patterns have for an entry.
-ENTRY_SECONDS = 1.0
 HOLE = re.compile(r"\{([^{}]+)\}")
 RULES_FIELDS = {"lines": str, "begin": str, "run": str, "process": str, "rules": list}
 RULE_FIELDS = {"file": str, "match": (str, dict), "process": str, "text": str, "send": str, "to": str, "receive": str,
                "from": str, "clock": str, "set": dict}
-
-
-class Watch:
-    """Refuses an entry if patterns take too long for it, as some do for the square of its length, or worse: within
-    `with WATCH.on():` what stands in `with WATCH(place):` has that much time. Where the system has no such timer it
-    takes what it takes."""
-
-    def __init__(self):
-        self.is_on = False
-        self.place = None
-
-    @contextlib.contextmanager
-    def on(self):
-        if not hasattr(signal, "setitimer"):
-            yield
-            return
-        before = signal.signal(signal.SIGVTALRM, self.refuse)
-        self.is_on = True
-        try:
-            yield
-        finally:
-            self.is_on = False
-            signal.signal(signal.SIGVTALRM, before)
-
-    def refuse(self, *_):
-        raise Refused(f"{self.place}: the patterns take over {ENTRY_SECONDS:g} seconds for this entry")
-
-    def __call__(self, place):
-        self.place = place
-        return self
-
-    def __enter__(self):
-        if self.is_on:
-            signal.setitimer(signal.ITIMER_VIRTUAL, ENTRY_SECONDS)
-
-    def __exit__(self, *_):
-        if self.is_on:
-            signal.setitimer(signal.ITIMER_VIRTUAL, 0)
-
-
-WATCH = Watch()
 
 
 class LogEvent(import_vector_clocks.LogEvent):
@@ -231,7 +186,7 @@ class Entry:
 
     def add(self, line):
         self.size += len(line.encode()) + 1
-        if self.size - 1 <= ENTRY_BYTE_LIMIT:
+        if self.size - 1 <= LINE_BYTE_LIMIT:
             self.lines.append(line)
 
     @property
@@ -280,16 +235,16 @@ def lines_of(path, skipped):
     with open(path, "rb") as file:
         number = 0
         while True:
-            line = file.readline(ENTRY_BYTE_LIMIT + 2)
+            line = file.readline(LINE_BYTE_LIMIT + 2)
             if not line:
                 return
             number += 1
-            is_long = len(line.rstrip(b"\r\n")) > ENTRY_BYTE_LIMIT
-            while line[-1:] != b"\n" and is_long and (more := file.readline(ENTRY_BYTE_LIMIT)):
+            is_long = len(line.rstrip(b"\r\n")) > LINE_BYTE_LIMIT
+            while line[-1:] != b"\n" and is_long and (more := file.readline(LINE_BYTE_LIMIT)):
                 line = more
             try:
                 if is_long:
-                    raise Refused(f"{path}:{number}: the line has over {ENTRY_BYTE_LIMIT} bytes")
+                    raise Refused(f"{path}:{number}: the line has over {LINE_BYTE_LIMIT} bytes")
                 yield number, line.decode("utf-8-sig" if number == 1 else "utf-8").rstrip("\r\n")
             except (Refused, UnicodeDecodeError) as error:
                 skip(error if isinstance(error, Refused) else Refused(f"{path}:{number}: this isn't UTF-8"), skipped)
@@ -320,8 +275,8 @@ def entries_of(path, rules, skipped):
 
 def whole(entry, skipped):
     if entry is not None:
-        if entry.size - 1 > ENTRY_BYTE_LIMIT:
-            skip(Refused(f"{entry.place}: the entry has over {ENTRY_BYTE_LIMIT} bytes"), skipped)
+        if entry.size - 1 > LINE_BYTE_LIMIT:
+            skip(Refused(f"{entry.place}: the entry has over {LINE_BYTE_LIMIT} bytes"), skipped)
         else:
             yield entry
 
@@ -510,9 +465,8 @@ def imported(given):
         raise Refused(f"{given.rules}: {error}") from None
     orphans, runs = 0, []
     for processes in found.runs:
-        for event in (event for events in processes.values() for event in events):
-            with WATCH(event.place):
-                find_settings([event], given.variables, given.when)
+        for events in processes.values():
+            find_settings(events, given.variables, given.when)
         if rules.has_clocks:
             import_vector_clocks.find_messages(processes)
         else:
@@ -536,9 +490,7 @@ def arguments(words):
 
 
 def main(words):
-    given = arguments(words)
-    with WATCH.on():
-        return run(imported, given)
+    return run(imported, arguments(words))
 
 
 if __name__ == "__main__":

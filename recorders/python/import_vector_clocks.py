@@ -19,8 +19,8 @@ import argparse
 import json
 import sys
 
-from importing import (PROCESS_LIMIT, Event, Refused, add_arguments, as_name, compiled, decoded, find_settings,
-                       name_processes, parsed, run, write_session)
+from importing import (LINE_BYTE_LIMIT, PROCESS_LIMIT, WATCH, Event, Refused, add_arguments, as_name,
+                       compiled, decoded, find_settings, name_processes, parsed, run, write_session)
 
 PATTERN = r"(?<!\S)(?<host>\S*) (?<clock>{[^{}\n]*})\n(?<event>.*)"
 
@@ -46,10 +46,11 @@ def log_pattern(pattern):
 
 def matches(path, pattern, skips_others):
     """Each place and match of the pattern in a log. Other lines that aren't blank are refused, unless skipped."""
-    text = decoded(path)
+    text = short_lines(path)
     end = 0
     line = 1
-    for match in pattern.finditer(text):
+    found = pattern.finditer(text)
+    while match := next_match(found, path, line, len(text)):
         if not skips_others:
             refuse_rest(path, line, text[end:match.start()])
         line += text.count("\n", end, match.start("clock"))
@@ -58,6 +59,24 @@ def matches(path, pattern, skips_others):
         end = match.end()
     if not skips_others:
         refuse_rest(path, line, text[end:])
+
+
+def short_lines(path):
+    """The text of a log, in which no line is too long for patterns, be it of an event or not."""
+    with open(path, "rb") as file:
+        data = file.read()
+    for number, line in enumerate(data.split(b"\n"), 1):
+        if len(line.rstrip(b"\r")) > LINE_BYTE_LIMIT:
+            raise Refused(f"{path} line {number}: it has over {LINE_BYTE_LIMIT} bytes: shorten it, as by "
+                          f"cut -b -{LINE_BYTE_LIMIT}")
+    return decoded(path, data)
+
+
+def next_match(found, path, line, size):
+    """The next match. What lies before it may be much, so the pattern has a second more for each megabyte of the log,
+    of whose text this is the size."""
+    with WATCH(f"{path} from line {line}", size / 1e6):
+        return next(found, None)
 
 
 def refuse_rest(path, line, rest):

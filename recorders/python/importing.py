@@ -6,8 +6,10 @@ import json
 import os
 import re
 import shutil
+import signal
 import sys
 import tempfile
+import threading
 
 from monitor_recorder import EVENT_LIMIT, NotRecorded, Recorder, checked_name, checked_value, checked_variables
 
@@ -15,12 +17,60 @@ PROCESS_LIMIT = 16
 PREDICATE_LIMIT = 16
 WIDTH_LIMIT = 65_536
 ERROR_LIMIT = 5_000
+# So many bytes has a line of a log at most, and so many characters a text that patterns are held against.
+LINE_BYTE_LIMIT = 16_384
+TEXT_LIMIT = 262_144
+# So many seconds of the processor patterns have for an entry of a log, or for the text of an event.
+PATTERN_SECONDS = 1.0
 WHOLE_NUMBER = re.compile(r"[+-]?[0-9]{1,30}")
 TRUTHS = {"true": 1, "false": 0}
 
 
 class Refused(Exception):
     """What was given is no session: the text says where and why."""
+
+
+class Watch:
+    """Refuses what patterns take too long for, as some do for the square of a text's length, or worse: within
+    `with WATCH.on():` what stands in `with WATCH(place, more):` has PATTERN_SECONDS of the processor, and `more`. Where
+    the system has no such timer, and in a thread that gets no signals, it takes what it takes."""
+
+    def __init__(self):
+        self.is_on = False
+        self.place = None
+        self.seconds = None
+
+    @contextlib.contextmanager
+    def on(self):
+        if not hasattr(signal, "setitimer") or threading.current_thread() is not threading.main_thread():
+            yield
+            return
+        before = signal.signal(signal.SIGVTALRM, self.refuse)
+        self.is_on = True
+        try:
+            yield
+        finally:
+            self.is_on = False
+            signal.signal(signal.SIGVTALRM, before)
+
+    def refuse(self, *_):
+        raise Refused(f"{self.place}: the patterns take over {self.seconds:g} seconds here")
+
+    def __call__(self, place, more=0.0):
+        self.place = place
+        self.seconds = PATTERN_SECONDS + more
+        return self
+
+    def __enter__(self):
+        if self.is_on:
+            signal.setitimer(signal.ITIMER_VIRTUAL, self.seconds)
+
+    def __exit__(self, *_):
+        if self.is_on:
+            signal.setitimer(signal.ITIMER_VIRTUAL, 0)
+
+
+WATCH = Watch()
 
 
 class Event:
@@ -83,15 +133,28 @@ def decoded(path, data=None):
 
 def find_settings(events, patterns, conditions):
     """The settings of each event: by the groups of the first match of each pattern, and by conditions."""
-    for event in events:
-        for pattern in patterns:
-            match = pattern.search(event.text)
-            for name, text in match.groupdict().items() if match else ():
-                if text is not None:
-                    put_setting(event, name, value_of(event, name, text))
-        for pattern, name, value in conditions:
-            if pattern.search(event.text):
-                put_setting(event, name, value)
+    for event in events if patterns or conditions else ():
+        with searching(event):
+            set_by_patterns(event, patterns, conditions)
+
+
+def searching(event):
+    """What patterns are held against the text of the event in: it isn't too long, and they have their time."""
+    if len(event.text) > TEXT_LIMIT:
+        raise event.refused(f"its text has over {TEXT_LIMIT} characters, and patterns are held against no more: "
+                            "shorten it")
+    return WATCH(event.place)
+
+
+def set_by_patterns(event, patterns, conditions):
+    for pattern in patterns:
+        match = pattern.search(event.text)
+        for name, text in match.groupdict().items() if match else ():
+            if text is not None:
+                put_setting(event, name, value_of(event, name, text))
+    for pattern, name, value in conditions:
+        if pattern.search(event.text):
+            put_setting(event, name, value)
 
 
 def put_setting(event, name, value):
@@ -363,7 +426,9 @@ def parsed(parser, words):
 def run(imported, given):
     """Imports, prints what was found, and gives the exit status."""
     try:
-        print(imported(given))
+        with WATCH.on():
+            said = imported(given)
+        print(said)
     except (Refused, OSError) as error:
         text = str(error)
         print("refused:", text if len(text) <= ERROR_LIMIT else text[:ERROR_LIMIT] + " ..", file=sys.stderr)

@@ -10,6 +10,7 @@ from unittest import mock
 
 import import_logs as importer
 import import_vector_clocks
+import importing
 import test_import_vector_clocks as clocks
 from import_cases import ImportCase
 from judging import FOLDER, needs_program, report_of
@@ -339,11 +340,11 @@ class Long(Case):
         self.assertEqual(self.lines(rules, [log], "--skip-unreadable"), {"a": [{}]})
 
     def test_patterns_that_take_more_than_time_for_the_length(self):
-        self.assertEqual(importer.ENTRY_SECONDS, 1)
-        shorter = mock.patch.object(importer, "ENTRY_SECONDS", 0.2)
+        self.assertEqual(importing.PATTERN_SECONDS, 1)
+        shorter = mock.patch.object(importing, "PATTERN_SECONDS", 0.2)
         shorter.start()
         self.addCleanup(shorter.stop)
-        why = "a.log:2: the patterns take over 0.2 seconds for this entry"
+        why = "a.log:2: the patterns take over 0.2 seconds here"
         slow = "(z+)+y"
         for rules, words in (({"rules": [{"match": slow}]}, []), ({"rules": [{"match": "(z|z)*y"}]}, []),
                              ({"rules": [{"match": "z*z*z*z*y"}]}, []), ({"run": slow, "rules": [{"match": "z"}]}, []),

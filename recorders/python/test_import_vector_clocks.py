@@ -4,7 +4,6 @@ import itertools
 import json
 import os
 import random
-import signal
 import subprocess
 import sys
 import unittest
@@ -98,18 +97,6 @@ class Sessions(Case):
         _, streams = self.imported([text], "--skip-other-lines")
         self.assertEqual(streams, {"a": [{}, {}]})
         self.assertEqual(self.written_file("events.tsv"), "a#1\t1.log line 2\tbegins\na#2\t1.log line 5\tends\n")
-
-    def test_a_line_takes_time_for_its_length(self):
-        million = 10 ** 6
-        lines = ["x" * million, " " * million, "{ " * (million // 2), "a {" * (million // 3), "a {} " * (million // 5),
-                 "a {" + "x" * million, "a " + "{" * million, "a {" + "}" * million + " x"]
-        signal.signal(signal.SIGALRM, lambda *_: self.fail("a line takes too long"))
-        signal.alarm(60)
-        self.addCleanup(signal.alarm, 0)
-        for number, line in enumerate(lines):
-            self.out = f"out{number}"
-            _, streams = self.imported([f'a {{"a":1}}\nbegins\n{line}\n'], "--skip-other-lines")
-            self.assertEqual(streams, {"a": [{}]})
 
     def test_width(self):
         self.assertEqual(self.imported([CLIENT, SERVER], "--width", "65536")[0]["width"], 65536)

@@ -9,7 +9,7 @@ import json
 import re
 
 from importing import (PROCESS_LIMIT, Event, Refused, add_arguments, as_name, compiled, decoded, find_settings,
-                       name_processes, parsed, run, shown, write_session)
+                       name_processes, parsed, run, searching, shown, write_session)
 
 SERVER, CLIENT, PRODUCER, CONSUMER = 2, 3, 4, 5
 KINDS = {f"SPAN_KIND_{name}": number for number, name in enumerate(
@@ -448,8 +448,13 @@ def find_messages(spans, left_out, unanswered):
         for receivers in instances.values():
             connect(sender.start, first_of(span.receipt for span in receivers))
             answers = [span.end for span in receivers if span.kind == SERVER and span.parent is sender]
-            if sender.kind == CLIENT and answers and not any(it.search(sender.end.text) for it in unanswered):
+            if sender.kind == CLIENT and answers and not any(matches(pattern, sender.end) for pattern in unanswered):
                 connect(first_of(answers), sender.end)
+
+
+def matches(pattern, moment):
+    with searching(moment):
+        return pattern.search(moment.text) is not None
 
 
 def refuse_second(sender, instances):
@@ -473,9 +478,9 @@ def connect(sender, receiver):
 
 def refuse_unsure(spans, patterns):
     """No pattern may take an attribute both at a span's start and at its end."""
-    for span in spans:
+    for span in spans if patterns else ():
         for pattern in patterns:
-            if pattern.search(span.start.text) and pattern.search(span.end.text):
+            if matches(pattern, span.start) and matches(pattern, span.end):
                 shown = pattern.pattern.replace("(?P<", "(?<")
                 raise span.refused(f"{shown!r} matches at its start and at its end, and the trace doesn't tell when an "
                                    "attribute was set: begin the pattern with ^start, ^event or ^end")
