@@ -11,6 +11,7 @@
 #include <netinet/in.h>
 #include <netinet/tcp.h>
 #include <pthread.h>
+#include <signal.h>
 #include <stdbool.h>
 #include <stdio.h>
 #include <stdlib.h>
@@ -125,6 +126,43 @@ static void put_event(line_text *line, const char *field, const char *id, const 
     put(line, count > 0 ? "}}\n" : "}\n");
 }
 
+/* Whether the signal waits for this thread to let it through. */
+static bool waits(int number)
+{
+    sigset_t pending;
+    return sigpending(&pending) == 0 && sigismember(&pending, number) == 1;
+}
+
+/* Writes to a file or a pipe. Of a file at the limit of its size, and of a pipe that nobody reads, the system says so by
+ * errno, and by a signal to this thread that would end the process: that one is held back, and taken. */
+static ssize_t write_without_signal(int descriptor, const char *bytes, size_t size)
+{
+    sigset_t both, before;
+    int number;
+    bool is_old[] = {waits(SIGXFSZ), waits(SIGPIPE)};
+    sigemptyset(&both);
+    sigaddset(&both, SIGXFSZ);
+    sigaddset(&both, SIGPIPE);
+    pthread_sigmask(SIG_BLOCK, &both, &before);
+    ssize_t taken = write(descriptor, bytes, size);
+    int reason = errno;
+    if (taken < 0 && (reason == EFBIG || reason == EPIPE)) {
+        bool is_size = reason == EFBIG;
+        sigdelset(&both, is_size ? SIGPIPE : SIGXFSZ);
+        if (!is_old[is_size ? 0 : 1] && waits(is_size ? SIGXFSZ : SIGPIPE))
+            sigwait(&both, &number);
+    }
+    pthread_sigmask(SIG_SETMASK, &before, NULL);
+    errno = reason;
+    return taken;
+}
+
+/* Closes the descriptor, which is closed too if a signal comes meanwhile: all was written before. */
+static int close_once(int descriptor)
+{
+    return close(descriptor) == 0 || errno == EINTR ? 0 : -1;
+}
+
 /* Hands the whole line to the system. If that fails, nothing more is written later. */
 static monitor_status write_to(monitor_recorder *recorder, int descriptor, bool is_socket, const line_text *line)
 {
@@ -133,7 +171,8 @@ static monitor_status write_to(monitor_recorder *recorder, int descriptor, bool 
     while (done < line->size) {
         const char *rest = line->bytes + done;
         size_t size = line->size - done;
-        ssize_t taken = is_socket ? send(descriptor, rest, size, MSG_NOSIGNAL) : write(descriptor, rest, size);
+        ssize_t taken = is_socket ? send(descriptor, rest, size, MSG_NOSIGNAL)
+                                  : write_without_signal(descriptor, rest, size);
         if (taken < 0 && errno == EINTR)
             continue;
         if (taken == 0)
@@ -404,7 +443,11 @@ static monitor_status over_files(const char *process, int descriptor, int notes,
 static int new_file(const char *path, int options)
 {
     int flags = (options & MONITOR_REPLACE) != 0 ? O_TRUNC : O_EXCL;
-    return open(path, O_WRONLY | O_CREAT | O_CLOEXEC | flags, 0666);
+    int descriptor;
+    do {
+        descriptor = open(path, O_WRONLY | O_CREAT | O_CLOEXEC | flags, 0666);
+    } while (descriptor < 0 && errno == EINTR);
+    return descriptor;
 }
 
 /* Whether the path is one beside which there can be notes. */
@@ -799,9 +842,9 @@ static monitor_status begin_strand(monitor_recorder *root, const char *name, mon
 static monitor_status close_files(monitor_recorder *recorder, monitor_status status)
 {
     int reason = errno;
-    bool is_closed = close(recorder->descriptor) == 0;
+    bool is_closed = close_once(recorder->descriptor) == 0;
     int failure = errno;
-    if (recorder->notes >= 0 && close(recorder->notes) != 0 && is_closed) {
+    if (recorder->notes >= 0 && close_once(recorder->notes) != 0 && is_closed) {
         is_closed = false;
         failure = errno;
     }

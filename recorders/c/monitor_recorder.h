@@ -120,7 +120,8 @@ monitor_status monitor_from_environment(const char *process, monitor_recorder **
 monitor_status monitor_from_environment_with(const char *process, int options, monitor_recorder **made);
 
 /* Records to a file, a pipe or a connection that is open for writing, and waits if it can't write. If this succeeds,
- * the descriptor is closed with the recorder. A pipe that nobody reads any more raises SIGPIPE. */
+ * the descriptor is closed with the recorder. Of a pipe that nobody reads any more the next
+ * call says MONITOR_SYSTEM, and raises no SIGPIPE. */
 monitor_status monitor_to_descriptor(const char *process, int descriptor, monitor_recorder **made);
 
 /* Something happened in this process; these variables have these values from now on. */

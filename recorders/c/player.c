@@ -5,6 +5,7 @@
 
 #include <inttypes.h>
 #include <pthread.h>
+#include <signal.h>
 #include <stdbool.h>
 #include <stdio.h>
 #include <stdlib.h>
@@ -322,6 +323,26 @@ static void record(char **words, size_t count)
         answer_status(monitor_receive(recorder, text_of(words[1]), settings, count - first), "");
 }
 
+static void do_nothing(int number)
+{
+    (void)number;
+}
+
+/* Has SIGWINCH interrupt calls of the system that the recorder makes: none is made again by the system. */
+static bool handle_signals(void)
+{
+    struct sigaction action = {.sa_handler = do_nothing};
+    return sigaction(SIGWINCH, &action, NULL) == 0;
+}
+
+static void let_signals(int how)
+{
+    sigset_t handled;
+    sigemptyset(&handled);
+    sigaddset(&handled, SIGWINCH);
+    pthread_sigmask(how, &handled, NULL);
+}
+
 static void make(char **words, size_t count)
 {
     char text[24];
@@ -336,6 +357,10 @@ static void make(char **words, size_t count)
         said = text_of(words[1]);
         make(words + 2, count - 2);
         said = NULL;
+        return;
+    }
+    if (strcmp(words[0], "signals") == 0) {
+        answer(handle_signals() ? "recorded" : "failed", "");
         return;
     }
     if (open_or_close(words))
@@ -363,13 +388,16 @@ static void make(char **words, size_t count)
 int main(void)
 {
     static char line[ROOM];
+    let_signals(SIG_BLOCK); /* what reads the calls would end by one */
     while (fgets(line, sizeof line, stdin) != NULL) {
         char *words[WORDS], *rest;
         size_t count = 0;
         for (char *word = strtok_r(line, " \n", &rest); word != NULL; word = strtok_r(NULL, " \n", &rest))
             if (count < WORDS)
                 words[count++] = word;
+        let_signals(SIG_UNBLOCK);
         make(words, count);
+        let_signals(SIG_BLOCK);
     }
     return 0;
 }

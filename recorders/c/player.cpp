@@ -2,6 +2,7 @@
 #include "monitor_recorder.hpp"
 
 #include <atomic>
+#include <csignal>
 #include <cstdlib>
 #include <functional>
 #include <iostream>
@@ -263,9 +264,27 @@ std::string record(Recorder &recorder, const Words &words)
     return "";
 }
 
+/* Has SIGWINCH interrupt calls of the system that the recorder makes: none is made again by the system. */
+bool handle_signals()
+{
+    struct sigaction action = {};
+    action.sa_handler = [](int) {};
+    return sigaction(SIGWINCH, &action, nullptr) == 0;
+}
+
+void let_signals(int how)
+{
+    sigset_t handled;
+    sigemptyset(&handled);
+    sigaddset(&handled, SIGWINCH);
+    pthread_sigmask(how, &handled, nullptr);
+}
+
 void make(Recorder *recorder, const Words &words)
 {
-    if (words[0] == "in") {
+    if (words[0] == "signals") {
+        answer(handle_signals() ? "recorded" : "failed");
+    } else if (words[0] == "in") {
         make(&called(words[1]), {words.begin() + 2, words.end()});
     } else if (words[0] == "note") {
         said = text_of(words[1]);
@@ -296,12 +315,14 @@ void make(Recorder *recorder, const Words &words)
 
 int main()
 {
+    let_signals(SIG_BLOCK); /* what reads the calls would end by one */
     for (std::string line; std::getline(std::cin, line);) {
         std::istringstream rest(line);
         Words words;
         said.reset();
         for (std::string word; rest >> word;)
             words.push_back(word);
+        let_signals(SIG_UNBLOCK);
         try {
             make(process ? &*process : nullptr, words);
         } catch (const NotRecorded &refused) {
@@ -311,6 +332,7 @@ int main()
         } catch (const Cannot &) {
             answer("cannot");
         }
+        let_signals(SIG_BLOCK);
     }
     return 0;
 }

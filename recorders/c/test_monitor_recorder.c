@@ -8,10 +8,12 @@
 #include <fcntl.h>
 #include <netinet/in.h>
 #include <pthread.h>
+#include <signal.h>
 #include <stdbool.h>
 #include <stdio.h>
 #include <stdlib.h>
 #include <string.h>
+#include <sys/resource.h>
 #include <sys/socket.h>
 #include <sys/wait.h>
 #include <unistd.h>
@@ -151,6 +153,43 @@ static void test_a_peer_that_is_gone(void)
     CHECK(monitor_event(recorder, MONITOR_NOTHING) == MONITOR_BROKEN);
     CHECK(monitor_events(recorder) == 0);
     CHECK(monitor_close(recorder) == MONITOR_BROKEN);
+}
+
+static bool is_pending(int number)
+{
+    sigset_t pending;
+    return sigpending(&pending) == 0 && sigismember(&pending, number) == 1;
+}
+
+/* A write that the system answers with a signal too: the call says so, no signal comes, and one that was there stays. */
+static void test_no_signal_comes(void)
+{
+    int ends[2];
+    monitor_recorder *recorder;
+    sigset_t both, before;
+    struct rlimit limit, low = {.rlim_cur = 30};
+    CHECK(pipe(ends) == 0);
+    RECORDED(monitor_to_descriptor("left", ends[1], &recorder));
+    close(ends[0]);
+    CHECK(monitor_event(recorder, MONITOR_NOTHING) == MONITOR_SYSTEM && errno == EPIPE && !is_pending(SIGPIPE));
+    monitor_abandon(recorder);
+    recorder = opened("left", "left");
+    sigemptyset(&both);
+    sigaddset(&both, SIGPIPE);
+    sigaddset(&both, SIGXFSZ);
+    pthread_sigmask(SIG_BLOCK, &both, &before);
+    raise(SIGXFSZ);
+    CHECK(getrlimit(RLIMIT_FSIZE, &limit) == 0);
+    low.rlim_max = limit.rlim_max;
+    CHECK(setrlimit(RLIMIT_FSIZE, &low) == 0);
+    CHECK(monitor_event(recorder, MONITOR_SET({"x", 1})) == MONITOR_SYSTEM && errno == EFBIG);
+    CHECK(setrlimit(RLIMIT_FSIZE, &limit) == 0);
+    CHECK(is_pending(SIGXFSZ) && !is_pending(SIGPIPE));
+    signal(SIGXFSZ, SIG_IGN);
+    pthread_sigmask(SIG_SETMASK, &before, NULL);
+    signal(SIGXFSZ, SIG_DFL);
+    monitor_abandon(recorder);
+    CHECK(has_text("left", "{\"process\":\"left\"}\n{\"set\":{\"x\"")); /* the 30 bytes that there was room for */
 }
 
 static void test_a_port_on_which_nobody_listens(void)
@@ -466,6 +505,7 @@ int main(int count, char **arguments)
     test_files();
     test_a_fork_does_not_record();
     test_a_peer_that_is_gone();
+    test_no_signal_comes();
     test_a_port_on_which_nobody_listens();
     test_a_place_that_the_environment_names();
     test_threads_with_a_strand_each();

@@ -1,9 +1,12 @@
-"""Trials of a recorder by its player, with threads, a process that is killed, and connections: what lines alone can't
-say. Each is given the players and a folder, and its first words say what it tries."""
+"""Trials of a recorder by its player, with threads, a process that is killed or gets signals, files and connections
+that end or wait: what lines alone can't say. Each is given the players and a folder, and its first words say what it
+tries. Those that leave out a call give how many."""
 import contextlib
 import json
 import os
+import resource
 import select
+import signal
 import socket
 import subprocess
 import sys
@@ -22,6 +25,7 @@ STRANDS = 15
 CONTENDING, ENTRIES = 3, 40
 SEEN = 300
 BURST = 4000
+FILE_LIMIT = 1000
 JOIN, END = b'{"process":"left"}\n', b'{"end":true}\n'
 SECONDS = 60
 DOCUMENT = json.dumps({"processes": [{"name": "left", "vars": {"inside": 0}}, {"name": "right", "vars": {"inside": 0}}],
@@ -311,7 +315,10 @@ def listens_later(players, _folder):
 
 def reads_late(players, _folder):
     """a monitor that reads late"""
-    player = players.of("left")
+    reads_late_by(players.of("left"))
+
+
+def reads_late_by(player):
     names = [f"{letter:_<32}" for letter in "abcdefghijklmnop"]
     values = range(-2**63, -2**63 + BURST)
     calls = ["event " + " ".join(f"{name}={value}" for name in names) for value in values]
@@ -330,6 +337,65 @@ def reads_late(players, _folder):
         telling.join()
         player.ask("end")
         see(reading.all() == JOIN + "".join(lines).encode() + END, "something else came than was recorded")
+
+
+def at_the_limit_of_a_files_size(players, folder):
+    """a file that may grow no longer"""
+    stream = Stream(folder, "left")
+    with Player(players.words) as player:
+        player.ask(f"file left {stream.word()}")
+        # Whoever set no other way for SIGXFSZ is ended by it.
+        resource.prlimit(player.process.pid, resource.RLIMIT_FSIZE, (FILE_LIMIT, resource.RLIM_INFINITY))
+        answers = 0
+        player.tell("event inside=1")
+        while (answer := player.answer()) == "recorded":
+            answers += 1
+            see(answers < FILE_LIMIT, "a line over the limit is still recorded")
+            player.tell("event inside=1")
+        see_text(answer, "failed")
+        player.ask("event", "refused broken")
+        player.ask("events", f"recorded {answers}")
+        player.ask("end", "refused broken")
+        player.end()
+    line = b'{"set":{"inside":1}}\n'
+    see_text(stream.added(), (JOIN + (answers + 1) * line)[:FILE_LIMIT])
+
+
+@contextlib.contextmanager
+def interrupted(player):
+    """Sends the player a signal each millisecond, which it has a handler for."""
+    is_done = threading.Event()
+
+    def send():
+        while not is_done.wait(0.001):
+            os.kill(player.process.pid, signal.SIGWINCH)
+
+    sending = threading.Thread(target=send)
+    sending.start()
+    try:
+        yield
+    finally:
+        is_done.set()
+        sending.join()
+
+
+def interrupted_by_signals(players, folder):
+    """a signal each millisecond"""
+    stream = Stream(folder, "left")
+    with Player(players.words) as player:
+        player.tell("signals")
+        if not player.has_answered("signals", "recorded"):
+            return 1
+        with interrupted(player):
+            reads_late_by(player)
+            player.ask(f"file left {stream.word()}")
+            for number in range(SEEN):
+                player.ask("send", f"recorded left-{number + 1}")
+            player.ask("end")
+        player.end()
+    lines = "".join(f'{{"send":"left-{number + 1}"}}\n' for number in range(SEEN))
+    see_text(stream.added(), JOIN + lines.encode() + END)
+    return 0
 
 
 class Reading(threading.Thread):
@@ -404,4 +470,5 @@ def served_with_a_strand(players, folder):
 TRIALS = [with_threads, with_strands, with_noted_threads, for_a_lock, killed_at_rest, killed_at_work,
           killed_with_notes, lines_as_they_are_recorded,
           strand_over_a_connection, without_an_end_over_a_connection, killed_over_a_connection, gone, nobody_listens,
-          listens_later, reads_late, served, served_with_a_strand]
+          listens_later, reads_late, at_the_limit_of_a_files_size, interrupted_by_signals, served,
+          served_with_a_strand]

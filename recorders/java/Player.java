@@ -103,7 +103,7 @@ final class Player {
             case "put" -> recorder.within(() -> queueOf(words.get(0)).add("a value"));
             case "take" -> recorder.within(() -> queueOf(words.get(0)).remove());
             case "locked", "unlocked" -> contend(words.get(0), Integer.parseInt(words.get(1)), call.equals("locked"));
-            case "send-text" -> throw new UnsupportedOperationException(call);
+            case "send-text", "signals" -> throw new UnsupportedOperationException(call);
             default -> throw new IllegalStateException("no call " + call);
         }
         return null;

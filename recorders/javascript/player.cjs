@@ -30,6 +30,7 @@ const calls = {
   close: () => recorder?.close(),
   threads: (count, turns) => run(Number(count), takeTurns, Number(turns)),
   flood: (count) => run(Number(count), sendAll),
+  signals: () => void process.on("SIGWINCH", () => {}),
   locked: (count, turns) => contend(Number(count), Number(turns), new RecordedLock()),
   unlocked: (count, turns) => contend(Number(count), Number(turns)),
   lock: (name) => recorder.within(() => named(locks, name, RecordedLock).acquire()),

@@ -2,6 +2,7 @@
 import collections
 import contextlib
 import json
+import signal
 import sys
 import threading
 from urllib.parse import unquote
@@ -128,6 +129,9 @@ class Player:
             with self.recorder.lock:
                 self.total += 1
                 self.recorder.event(total=self.total)
+
+    def signals(self):
+        signal.signal(signal.SIGWINCH, lambda *_: None)
 
     def flood(self, count):
         self.run(int(count), self.send_all)

@@ -9,9 +9,11 @@ import (
 	"fmt"
 	"net/url"
 	"os"
+	"os/signal"
 	"strconv"
 	"strings"
 	"sync"
+	"syscall"
 	"time"
 
 	"monitor.example/record"
@@ -101,6 +103,8 @@ func makeCall(call string, words []string) (given string, err error) {
 		err = takeTurns(int(numberOf(words[0])), int(numberOf(words[1])))
 	case "flood":
 		err = flood(int(numberOf(words[0])))
+	case "signals":
+		signal.Notify(make(chan os.Signal, 1), syscall.SIGWINCH)
 	case "lock", "unlock", "put", "take":
 		err = share(call, words[0])
 	default:

@@ -63,6 +63,29 @@ fn word_of(error: &Error) -> String {
     .to_owned()
 }
 
+#[cfg(unix)]
+mod signals {
+    use std::os::raw::c_int;
+
+    const SIGWINCH: c_int = 28;
+
+    extern "C" {
+        fn signal(number: c_int, handler: extern "C" fn(c_int)) -> usize;
+        fn siginterrupt(number: c_int, flag: c_int) -> c_int;
+    }
+
+    extern "C" fn do_nothing(_number: c_int) {}
+
+    /// Has SIGWINCH interrupt calls of the system: none is made again by the system.
+    pub fn handle() {
+        // SAFETY: the handler does nothing.
+        unsafe {
+            signal(SIGWINCH, do_nothing);
+            siginterrupt(SIGWINCH, 1);
+        }
+    }
+}
+
 /// Makes a call; nothing, if Rust has no such call.
 fn make(
     recorder: &mut Option<Recorder>,
@@ -88,6 +111,11 @@ fn make(
                 recorder,
                 Recorder::to_port_within(&text_of(words[0]), port, patience),
             ));
+        }
+        #[cfg(unix)]
+        "signals" => {
+            signals::handle();
+            return Some(Ok(String::new()));
         }
         "close" => {
             *recorder = None;

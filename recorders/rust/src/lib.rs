@@ -359,6 +359,7 @@ impl Options {
     }
 
     fn new_file(self, path: &Path) -> io::Result<File> {
+        limits::are_errors();
         let mut options = OpenOptions::new();
         options.write(true);
         let opened = if self.replaces {
@@ -865,7 +866,7 @@ impl Recording {
         let out = self.out.as_mut().ok_or(Error::Ended)?;
         self.is_broken = true;
         out.write_all(line.as_bytes())?;
-        out.flush()?;
+        flush(out)?;
         self.is_broken = false;
         Ok(())
     }
@@ -910,6 +911,16 @@ fn escaped(text: &str) -> String {
     escaped
 }
 
+/// Flushes; again if a signal comes meanwhile, as `write_all` writes again.
+fn flush(out: &mut dyn Write) -> io::Result<()> {
+    loop {
+        match out.flush() {
+            Err(error) if error.kind() == io::ErrorKind::Interrupted => (),
+            flushed => return flushed,
+        }
+    }
+}
+
 /// The line of an event, with its LF.
 fn line_of(message: Message, settings: &[Setting]) -> String {
     let mut fields = Vec::new();
@@ -943,6 +954,53 @@ fn quoted(text: &str) -> String {
     }
     quoted.push('"');
     quoted
+}
+
+/// What the system does at the limit of a file's size: a write fails, and SIGXFSZ ends the process unless that signal is
+/// ignored or handled.
+#[cfg(all(
+    target_os = "linux",
+    not(any(target_arch = "mips", target_arch = "mips64"))
+))]
+mod limits {
+    use std::os::raw::c_int;
+    use std::ptr;
+    use std::sync::Once;
+
+    const SIGXFSZ: c_int = 25;
+    const DEFAULT: usize = 0;
+    const IGNORED: usize = 1;
+    /// A `struct sigaction` of C has 152 bytes at most, of which the first are the handler.
+    type Action = [usize; 64];
+
+    extern "C" {
+        fn sigaction(number: c_int, action: *const Action, before: *mut Action) -> c_int;
+        fn signal(number: c_int, handler: usize) -> usize;
+    }
+
+    /// Has SIGXFSZ ignored in the whole process, so that a write over the limit is an error and no more, unless the
+    /// program handles the signal. The standard library does so with SIGPIPE.
+    pub fn are_errors() {
+        static ONCE: Once = Once::new();
+        ONCE.call_once(|| {
+            let mut action = [0; 64];
+            // SAFETY: there is room for what is asked for, and a signal that is ignored runs nothing.
+            unsafe {
+                if sigaction(SIGXFSZ, ptr::null(), &mut action) == 0 && action[0] == DEFAULT {
+                    signal(SIGXFSZ, IGNORED);
+                }
+            }
+        });
+    }
+}
+
+/// Elsewhere nothing is done: a write over the limit does there what the system does.
+#[cfg(not(all(
+    target_os = "linux",
+    not(any(target_arch = "mips", target_arch = "mips64"))
+)))]
+mod limits {
+    pub fn are_errors() {}
 }
 
 fn check_process(name: &str) -> Result<(), Error> {
