@@ -1,6 +1,8 @@
-"""What refuses an allocation, a read or a write of a program, or makes its allocations slow: a library that is loaded
-before the C library's own, and counts. It counts the threads too that are started, and the most bytes that the program
-has had from its allocator at once. With it a server listens on an address of its own."""
+"""What refuses a call of a program, or makes its allocations slow: a library that is loaded before the C library's own,
+and counts. By its kind the call is an allocation, a `read` (or a receipt from a connection), a `write`, a `send`, an
+`open`, an `accept`, a `mkdir`, a `rename`, or any of those that a signal can interrupt, which is then an
+`interruption`. It counts the threads too that are started, and the most bytes that the program has had from its
+allocator at once. With it a server listens on an address of its own."""
 import ipaddress
 import os
 import subprocess
@@ -18,11 +20,14 @@ SHIM = f"#define FIRST_ADDRESS {FIRST_ADDRESS:#x}u" + r"""
 #include <malloc.h>
 #include <netinet/in.h>
 #include <pthread.h>
+#include <stdarg.h>
 #include <stdlib.h>
 #include <string.h>
 #include <sys/mman.h>
 #include <sys/socket.h>
+#include <sys/stat.h>
 #include <sys/syscall.h>
+#include <time.h>
 #include <unistd.h>
 
 void *__libc_malloc(size_t);
@@ -37,7 +42,7 @@ static const char *kind = "allocation";
 /* The count stands in a file that is mapped, since a program with threads may end without its destructors. */
 __attribute__((constructor)) static void map(void) {
     const char *number = getenv("REFUSED"), *path = getenv("ASKED");
-    int file = path ? open(path, O_RDWR) : -1;
+    int file = path ? (int)syscall(SYS_openat, AT_FDCWD, path, O_RDWR, 0) : -1;
     if (file < 0) return;
     refused = number ? atol(number) : 0;
     if (getenv("KIND")) kind = getenv("KIND");
@@ -54,6 +59,14 @@ static void be_slow(const char *what) {
 static int is_refused(const char *what) {
     be_slow(what);
     return asked && !strcmp(kind, what) && __atomic_add_fetch(asked, 1, __ATOMIC_SEQ_CST) == refused;
+}
+
+/* Whether this call, which a signal can interrupt, is to fail, by this error if its kind is refused. */
+static int fails(const char *what, int error) {
+    int interrupts = asked && !strcmp(kind, "interruption");
+    if (!is_refused(interrupts ? kind : what)) return 0;
+    errno = interrupts ? EINTR : error;
+    return 1;
 }
 
 /* Notes this many bytes more or less, and the most that there were so far. */
@@ -75,18 +88,61 @@ int pthread_create(pthread_t *thread, const pthread_attr_t *attributes, void *(*
 }
 
 ssize_t read(int file, void *to, size_t size) {
-    if (is_refused("read")) { errno = EIO; return -1; }
-    return syscall(SYS_read, file, to, size);
+    return fails("read", EIO) ? -1 : syscall(SYS_read, file, to, size);
 }
 
 ssize_t recv(int file, void *to, size_t size, int flags) {
-    if (is_refused("read")) { errno = EIO; return -1; }
-    return recvfrom(file, to, size, flags, 0, 0);
+    return fails("read", EIO) ? -1 : recvfrom(file, to, size, flags, 0, 0);
 }
 
 ssize_t write(int file, const void *from, size_t size) {
-    if (is_refused("write")) { errno = EIO; return -1; }
-    return syscall(SYS_write, file, from, size);
+    return fails("write", EIO) ? -1 : syscall(SYS_write, file, from, size);
+}
+
+ssize_t send(int file, const void *from, size_t size, int flags) {
+    return fails("send", ECONNRESET) ? -1 : sendto(file, from, size, flags, 0, 0);
+}
+
+static int opened(int folder, const char *path, int flags, mode_t mode) {
+    return fails("open", EMFILE) ? -1 : (int)syscall(SYS_openat, folder, path, flags, mode);
+}
+
+int open(const char *path, int flags, ...) {
+    va_list more;
+    va_start(more, flags);
+    mode_t mode = flags & O_CREAT ? va_arg(more, mode_t) : 0;
+    va_end(more);
+    return opened(AT_FDCWD, path, flags, mode);
+}
+
+int openat(int folder, const char *path, int flags, ...) {
+    va_list more;
+    va_start(more, flags);
+    mode_t mode = flags & O_CREAT ? va_arg(more, mode_t) : 0;
+    va_end(more);
+    return opened(folder, path, flags, mode);
+}
+
+int accept4(int file, struct sockaddr *address, socklen_t *size, int flags) {
+    return fails("accept", ECONNABORTED) ? -1 : (int)syscall(SYS_accept4, file, address, size, flags);
+}
+
+int mkdir(const char *path, mode_t mode) {
+    if (is_refused("mkdir")) { errno = ENOSPC; return -1; }
+    return (int)syscall(SYS_mkdir, path, mode);
+}
+
+int rename(const char *from, const char *to) {
+    if (is_refused("rename")) { errno = EIO; return -1; }
+    return (int)syscall(SYS_rename, from, to);
+}
+
+int nanosleep(const struct timespec *time, struct timespec *left) {
+    if (asked && !strcmp(kind, "interruption") && fails("sleep", 0)) {
+        if (left) *left = *time;
+        return -1;
+    }
+    return (int)syscall(SYS_nanosleep, time, left);
 }
 
 /* The program listens on an address that its number gives, and not on 127.0.0.1: whoever tries the same port there, to

@@ -1,23 +1,29 @@
 #!/usr/bin/env python3
-"""refuse_each.py PROGRAM [INPUT..]: refuses each of the program's allocations, reads and writes in turn.
+"""refuse_each.py PROGRAM [INPUT..]: refuses each of the program's allocations, and of its calls of the system, in turn.
 
 An input is a bundle, or a folder with `session.json`, `report` and files `NAME.stream`. A folder is judged from its
 files, by one worker and by two, with --beyond-width and --fail-on, and as a bundle; its report is checked and drawn;
 its run is explored; and its streams are served, with a watcher. Small sessions are run beside them: one that is judged,
-one with messages, one with a causal cycle, one with wide levels, and one of sixteen processes; and one of width 1, that
-is judged and served with these two options alone, has predicates for each way to answer, and is judged once with others
-in their place. For each of these runs and each N, counted upward until a run meets no refusal, the program runs with
-its Nth allocation refused; then with its Nth read failing, and with its Nth write. Before these it runs once with each
-allocation slow: a thread that asks for memory under a lock lets the others wait for the lock meanwhile, so an unlock
-that wakes nobody leaves a run without an end.
+one with messages, which is also served and kept, one with a causal cycle, one with wide levels, and one of sixteen
+processes; and one of width 1, that is judged and served with these two options alone, has predicates for each way to
+answer, and is judged once with others in their place. For each of these runs and each N, counted upward until a run
+meets no refusal, the program runs with its Nth allocation refused; then with its Nth read or receipt failing, its Nth
+write, what it sends to a watcher, its Nth opened file, accepted connection, folder that is made and file that is
+renamed; and with the Nth of all these, and of its sleeps, failing as one does that a signal interrupts. Before these it
+runs once with each allocation slow: a thread that asks for memory under a lock lets the others wait for the lock
+meanwhile, so an unlock that wakes nobody leaves a run without an end.
 
 It must end as a run that is refused nothing; or, for an allocation, with status 4, nothing on standard output and
 `monitor: memory` on standard error; for a read, with status 3 and `monitor: read`, or with what is made of a stream
-that can't be read, or with a page that lacks the lines of a file; for a write, with status 3, a prefix of the output
-and `monitor: write`. A server's watcher must be shown what one is shown then, or a prefix of it, but for a read, whose
-stream it may see fail. One that has not ended after a minute is wrong, and is killed. The first allocations are the C
-library's own, and so are those with which it starts threads: a thread that can't be started is no failure. The last
-line says how many runs there were and how many ended otherwise; the status is 1 if any did. It needs gcc.
+that can't be read, or with a page that lacks the lines of a file; for a write, a folder or a renamed file, with status
+3, a prefix of the output and `monitor: write`; for a connection with status 3 and `monitor: network`; and for a file or
+an interruption, which may be of any of these, in one of these ways. What is sent to a watcher changes nothing. A
+server's watcher must be shown what one is shown then, or a prefix of it, but where a stream may fail, which it may see;
+and each file that is kept must be a prefix of what was to be kept, of which a server may say `monitor: write` too if an
+allocation is refused. One that has not ended after a minute is wrong, and
+is killed. The first allocations are the C library's own, and so are those with which it starts threads: a thread that
+can't be started is no failure. The last line says how many runs there were and how many ended otherwise; the status is
+1 if any did. It needs gcc.
 
 Each server listens on an address of its own, so it makes no difference which ports other programs use meanwhile."""
 import concurrent.futures
@@ -25,6 +31,7 @@ import json
 import os
 import random
 import re
+import shutil
 import socket
 import subprocess
 import sys
@@ -63,7 +70,9 @@ SESSIONS = {
     "wide levels": ({"a": "n", "b": "n", "c": "n"}, {"top": "a.n + b.n + c.n == 30", "never": "a.n == 99"},
                     [[f'"set":{{"n":{value}}}' for value in range(1, 11)]] * 3),
 }
-KINDS = ("allocation", "read", "write")
+KINDS = ("allocation", "read", "write", "send", "open", "accept", "mkdir", "rename", "interruption")
+# Those after which a stream, or what stands in a file, may be unread; and those after which something may be unwritten.
+READS, WRITES = ("read", "open", "interruption"), ("write", "open", "mkdir", "rename", "interruption")
 # What is made of a stream that can't be read: the report, what a check finds, what a watcher is shown, and what stands
 # against a picture.
 UNREAD = re.compile(rb"refused stream \d+ line \d+ read\n|refused bad\n|")
@@ -143,12 +152,23 @@ def play(server, port, streams, patience, shown):
 
 
 def serve(arguments, streams, folder, number, kind):
-    """What a server gives and its watcher is shown, and how many calls of the kind it made."""
+    """What a server gives, its watcher is shown and it keeps, and how many calls of the kind it made."""
     for _ in range(TRIES):
+        shutil.rmtree(kept_in(arguments), ignore_errors=True)
         ended = serve_once(arguments, streams, folder, number, kind)
-        if ended[2] != NO_NETWORK:
+        if ended[2] != NO_NETWORK or number and kind == "accept":
             break
-    return ended, asked_for(folder)
+    return (*ended, kept_files(kept_in(arguments))), asked_for(folder)
+
+
+def kept_in(arguments):
+    """The folder in which a server keeps its session; no folder has this name if it keeps none."""
+    return arguments[arguments.index("--keep") + 1] if "--keep" in arguments else ""
+
+
+def kept_files(folder):
+    names = os.listdir(folder) if os.path.isdir(folder) else []
+    return {name: contents(os.path.join(folder, name)) for name in names}
 
 
 def serve_once(arguments, streams, folder, number, kind):
@@ -176,9 +196,9 @@ def contents(path):
         return opened.read()
 
 
-def runs_of(program, path, beyond_alone):
-    """Each run of an input, or of those with --beyond-width alone: its name, what runs it, the program and its
-    arguments, and the bytes that it is given."""
+def runs_of(program, name, path):
+    """Each run of an input, or of `width 1` those with --beyond-width alone: its name, what runs it, the program and
+    its arguments, and the bytes that it is given."""
     if not os.path.isdir(path):
         return [("", run, [program], contents(path))]
     names = sorted(name for name in os.listdir(path) if name.endswith(".stream"))
@@ -191,16 +211,18 @@ def runs_of(program, path, beyond_alone):
     parts = [contents(part) for part in [document, *streams]]
     fail_on = ["--beyond-width", "--fail-on", "unknown,possibly,definitely-no"]
     beyond = ("judge beyond the width", run, [*judge, *fail_on], b"")
-    if beyond_alone:
+    if name == "width 1":
         asked = ["--width", "2", "--ask", "true", "--ask", "false"]
         return [beyond, ("serve beyond the width", serve, [program, "serve", *fail_on, document], parts[1:]),
                 ("judge what is asked", run, [*judge, *asked], b"")]
+    keep = [program, "serve", "--keep", os.path.join(path, "kept"), document]
+    kept = [("serve and keep", serve, keep, parts[1:])] if name == "messages" else []
     return [("judge", run, judge, b""), ("judge by two workers", run, [*judge, "--workers", "2"], b""), beyond,
             ("a bundle", run, [program], b"---\n".join(parts)),
             ("check", run, [program, "check", document, report, *streams], b""),
             ("draw", run, [program, "draw", document, report, *streams], b""),
             ("explore", run, [program, "explore", document, *streams], b""),
-            ("serve", serve, [program, "serve", document], parts[1:])]
+            ("serve", serve, [program, "serve", document], parts[1:]), *kept]
 
 
 def lacks_lines(ended, want):
@@ -214,19 +236,47 @@ def lacks_lines(ended, want):
 
 def is_right(kind, ended, want):
     """Whether a run that was refused a call ended as it may; what it gives with no refusal is `want`."""
-    status, output, errors, *shown = ended
-    if shown and not (SHOWN.fullmatch(shown[0]) if kind == "read" else want[3].startswith(shown[0])):
+    if len(ended) > 3 and not (is_shown(kind, ended[3], want[3]) and is_kept(ended[4], want[4], ended[1])):
         return False
     if ended[:3] == want[:3]:
         return True
     if kind == "allocation":
-        return ended[:3] == (4, b"", b"monitor: memory\n")
-    if kind == "read":
-        is_unread = status == 1 and UNREAD.fullmatch(output) and AGAINST.fullmatch(errors)
-        return bool(is_unread) or ended[:3] == (3, b"", b"monitor: read\n") or lacks_lines(ended, want)
-    if want[1].startswith(output) and output != want[1]:
-        return (status, errors) == (3, b"monitor: write\n")
+        return ended[:3] == (4, b"", b"monitor: memory\n") or keeps(want) and is_unwritten(ended, want)
+    if kind == "accept":
+        return ended[:3] == (3, b"", NO_NETWORK)
+    return kind in READS and is_unread(ended, want) or kind in WRITES and is_unwritten(ended, want)
+
+
+def is_unread(ended, want):
+    """Whether this is made of a stream that can't be read, or of another file."""
+    status, output, errors = ended[:3]
+    is_of_stream = status == 1 and UNREAD.fullmatch(output) and AGAINST.fullmatch(errors)
+    return bool(is_of_stream) or ended[:3] == (3, b"", b"monitor: read\n") or lacks_lines(ended, want)
+
+
+def is_unwritten(ended, want):
+    """Whether this is a run that couldn't write, be it its output, what it keeps or its errors."""
+    status, output, errors = ended[:3]
+    if (status, errors) == (3, b"monitor: write\n"):
+        return want[1].startswith(output) and (output != want[1] or keeps(want))
     return (status, output) == want[:2] and want[2].startswith(errors)
+
+
+def keeps(want):
+    """Whether the server keeps its session. What it has no memory to name, it couldn't write."""
+    return len(want) > 4 and bool(want[4])
+
+
+def is_shown(kind, shown, want):
+    return bool(SHOWN.fullmatch(shown)) if kind in READS else want.startswith(shown)
+
+
+def is_kept(kept, want, output):
+    """Whether each kept file is a prefix: of the document, of what came of a stream, or of the report."""
+    streams = [text for name, text in want.items() if name.endswith(".stream")]
+    return all(output.startswith(text) if name == "report" else
+               any(whole.startswith(text) for whole in streams) if name.endswith(".stream") else
+               want.get(name, b"").startswith(text) and name in want for name, text in kept.items())
 
 
 def refuse_each(name, take, arguments, given, folder):
@@ -239,8 +289,8 @@ def refuse_each(name, take, arguments, given, folder):
     if slow[:3] != want[:3]:
         return runs, [f"{name}: slow allocations: {slow}"]
     for kind in KINDS:
-        want, _ = take(arguments, given, folder, 0, kind)
-        number, made = 0, 1
+        want, made = take(arguments, given, folder, 0, kind)
+        number = 0 if made else 1
         while number <= made:
             number += 1
             ended, made = take(arguments, given, folder, number, kind)
@@ -261,7 +311,7 @@ def main():
             write_session(inputs[name], *session)
         found = []
         for name, how, *one in [(name, *one) for name, path in inputs.items()
-                                for one in runs_of(program, path, name == "width 1")]:
+                                for one in runs_of(program, name, path)]:
             own = tempfile.mkdtemp(dir=folder)
             os.link(os.path.join(folder, "shim.so"), os.path.join(own, "shim.so"))
             found.append(pool.submit(refuse_each, f"{name}: {how}".strip(": "), *one, own))
