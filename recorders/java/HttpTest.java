@@ -31,7 +31,6 @@ import java.util.concurrent.Executors;
 import java.util.stream.Collectors;
 import java.util.stream.Stream;
 import monitor.Recorder;
-import monitor.http.CurrentRecorder;
 import monitor.http.RecordingClient;
 import monitor.http.RecordingExchangeFilter;
 
@@ -146,7 +145,7 @@ final class HttpTest {
         Server(RecordingExchangeFilter filter, HttpHandler handler) throws IOException {
             server = HttpServer.create(new InetSocketAddress(InetAddress.getLoopbackAddress(), 0), 0);
             server.createContext("/", handler).getFilters().addAll(List.of(Filter.afterHandler("sees", exchange ->
-                see(CurrentRecorder.get() == null, true)), filter));
+                see(Recorder.current() == null, true)), filter));
             server.setExecutor(threads);
             server.start();
         }
@@ -173,8 +172,8 @@ final class HttpTest {
 
     /** Is inside while it handles a request. */
     private static void inside(HttpExchange exchange) throws IOException {
-        CurrentRecorder.get().event(set("x", 1));
-        CurrentRecorder.get().event(set("x", 0));
+        Recorder.current().event(set("x", 1));
+        Recorder.current().event(set("x", 0));
         answer(exchange, 200, "done by " + exchange.getRequestMethod());
     }
 
@@ -190,7 +189,7 @@ final class HttpTest {
 
     private static void requestsOfTwoClientsHaveNoOrder(Path folder) throws Exception {
         List<Recorder> all = recorders(folder, "right", "ann", "bob");
-        RecordingExchangeFilter filter = new RecordingExchangeFilter(all.get(0));
+        RecordingExchangeFilter filter = RecordingExchangeFilter.byClient(all.get(0));
         try (Server server = new Server(filter, HttpTest::inside)) {
             for (int client : new int[] {1, 2, 1}) {
                 see(get(client(all.get(client)), server.uri()).body(), "done by GET");
@@ -211,7 +210,7 @@ final class HttpTest {
 
     private static void requestsInOrder(Path folder) throws Exception {
         List<Recorder> all = recorders(folder, "right", "ann", "bob");
-        try (Server server = new Server(RecordingExchangeFilter.inOrder(all.get(0)), HttpTest::inside)) {
+        try (Server server = new Server(new RecordingExchangeFilter(all.get(0)), HttpTest::inside)) {
             get(client(all.get(1)), server.uri());
             get(client(all.get(2)), server.uri());
         }
@@ -229,9 +228,9 @@ final class HttpTest {
                 {"traceparent", "00-" + "0".repeat(32) + "-" + span + "-01"},
                 {"traceparent", "00-" + trace + "-" + "0".repeat(16) + "-01"}};
         List<Recorder> all = recorders(folder, "right");
-        RecordingExchangeFilter filter = new RecordingExchangeFilter(all.get(0));
+        RecordingExchangeFilter filter = RecordingExchangeFilter.byClient(all.get(0));
         try (Server server = new Server(filter, exchange -> {
-            see(CurrentRecorder.get(), all.get(0));
+            see(Recorder.current(), all.get(0));
             answer(exchange, 200, "done");
         })) {
             for (String[] header : headers) {
@@ -246,11 +245,11 @@ final class HttpTest {
 
     private static void eachRedirectIsARequest(Path folder) throws Exception {
         List<Recorder> all = recorders(folder, "first", "second", "ann");
-        try (Server second = new Server(new RecordingExchangeFilter(all.get(1)), exchange -> {
+        try (Server second = new Server(RecordingExchangeFilter.byClient(all.get(1)), exchange -> {
             see(exchange.getRequestHeaders().containsKey("Authorization"), false);
             see(exchange.getRequestHeaders().getFirst("Accept"), "text/plain");
             inside(exchange);
-        }); Server first = new Server(new RecordingExchangeFilter(all.get(0)), exchange -> {
+        }); Server first = new Server(RecordingExchangeFilter.byClient(all.get(0)), exchange -> {
             exchange.getResponseHeaders().set("Location", second.uri().toString());
             answer(exchange, 302, "moved");
         })) {
@@ -281,7 +280,7 @@ final class HttpTest {
 
     private static void redirectsThatAreNotFollowed(Path folder) throws Exception {
         List<Recorder> all = recorders(folder, "right", "ann");
-        try (Server server = new Server(new RecordingExchangeFilter(all.get(0)), exchange -> {
+        try (Server server = new Server(RecordingExchangeFilter.byClient(all.get(0)), exchange -> {
             exchange.getResponseHeaders().set("Location", "/");
             answer(exchange, 302, "moved");
         })) {
@@ -299,7 +298,7 @@ final class HttpTest {
     private static void aSecondCopyIsNoReceipt(Path folder) throws Exception {
         List<Recorder> all = recorders(folder, "right", "ann");
         String id = all.get(1).send();
-        try (Server server = new Server(new RecordingExchangeFilter(all.get(0)), HttpTest::inside)) {
+        try (Server server = new Server(RecordingExchangeFilter.byClient(all.get(0)), HttpTest::inside)) {
             see(saying(() -> {
                 for (int copy = 1; copy <= 2; copy++) {
                     HttpRequest request = HttpRequest.newBuilder(server.uri()).header("Monitor-Request", id).build();
@@ -316,7 +315,7 @@ final class HttpTest {
         CountDownLatch arrived = new CountDownLatch(1);
         CountDownLatch goOn = new CountDownLatch(1);
         CountDownLatch done = new CountDownLatch(1);
-        try (Server server = new Server(new RecordingExchangeFilter(all.get(0)), exchange -> {
+        try (Server server = new Server(RecordingExchangeFilter.byClient(all.get(0)), exchange -> {
             arrived.countDown();
             await(goOn);
             try {
@@ -346,7 +345,7 @@ final class HttpTest {
 
     private static void aHandlerThatFails(Path folder) throws Exception {
         List<Recorder> all = recorders(folder, "right", "ann");
-        try (Server server = new Server(new RecordingExchangeFilter(all.get(0)), exchange -> {
+        try (Server server = new Server(RecordingExchangeFilter.byClient(all.get(0)), exchange -> {
             throw new IOException("lost");
         })) {
             see(get(client(all.get(1)), server.uri()).statusCode(), 500);
@@ -359,12 +358,12 @@ final class HttpTest {
     private static void aResponseIsReceivedBeforeItsBody(Path folder) throws Exception {
         List<Recorder> all = recorders(folder, "right", "ann");
         CountDownLatch goOn = new CountDownLatch(1);
-        try (Server server = new Server(new RecordingExchangeFilter(all.get(0)), exchange -> {
+        try (Server server = new Server(RecordingExchangeFilter.byClient(all.get(0)), exchange -> {
             exchange.sendResponseHeaders(200, 0);
             try (exchange; OutputStream body = exchange.getResponseBody()) {
                 body.flush();
                 await(goOn);
-                CurrentRecorder.get().event(set("x", 1));
+                Recorder.current().event(set("x", 1));
                 body.write("done".getBytes(StandardCharsets.UTF_8));
             }
         })) {
@@ -382,7 +381,7 @@ final class HttpTest {
     private static void requestsAtOnce(Path folder) throws Exception {
         List<Recorder> all = recorders(folder, "right", "ann");
         CyclicBarrier barrier = new CyclicBarrier(3);
-        try (Server server = new Server(new RecordingExchangeFilter(all.get(0)), exchange -> {
+        try (Server server = new Server(RecordingExchangeFilter.byClient(all.get(0)), exchange -> {
             try {
                 barrier.await();
             } catch (Exception error) {
@@ -403,7 +402,7 @@ final class HttpTest {
                     }
                 }
             }), "monitor.http: ann has several requests under way at once, and their order is taken for a cause: "
-                    + "give each task a strand, by CurrentRecorder.set.\n");
+                    + "give each task a strand, and have it request within that.\n");
         }
         judge(folder, all, "right ann right_ann", "ann.x == 1", "session 3 processes 26 events 13 messages\n");
     }
@@ -426,7 +425,7 @@ final class HttpTest {
     private static void aRecorderThatFailsIsToldOnce() throws Exception {
         Recorder right = new Recorder("right", narrow(2));
         Recorder ann = new Recorder("ann", narrow(4));
-        try (Server server = new Server(RecordingExchangeFilter.inOrder(right), exchange -> {
+        try (Server server = new Server(new RecordingExchangeFilter(right), exchange -> {
             see(exchange.getRequestHeaders().containsKey("Monitor-Request"), false);
             answer(exchange, 200, "done");
         })) {
@@ -444,7 +443,7 @@ final class HttpTest {
     private static void aStrandThatCannotBegin(Path folder) throws Exception {
         String other = "a".repeat(30);
         List<Recorder> all = recorders(folder, "right", "ann", other, "bob");
-        try (Server server = new Server(new RecordingExchangeFilter(all.get(0)), HttpTest::inside)) {
+        try (Server server = new Server(RecordingExchangeFilter.byClient(all.get(0)), HttpTest::inside)) {
             String said = saying(() -> {
                 for (int client : new int[] {1, 2, 3, 1}) {
                     get(client(all.get(client)), server.uri());
@@ -461,8 +460,8 @@ final class HttpTest {
         List<Recorder> all = recorders(folder, "right");
         HttpClient plain = client(null);
         see(plain instanceof RecordingClient, false);
-        try (Server server = new Server(new RecordingExchangeFilter(null), exchange ->
-            answer(exchange, 200, String.valueOf(CurrentRecorder.get())))) {
+        try (Server server = new Server(RecordingExchangeFilter.byClient(null), exchange ->
+            answer(exchange, 200, String.valueOf(Recorder.current())))) {
             see(get(plain, server.uri()).body(), "null");
             see(get(client(all.get(0)), server.uri()).body(), "null");
         }

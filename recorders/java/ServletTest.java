@@ -31,7 +31,6 @@ import java.util.logging.Level;
 import java.util.logging.LogManager;
 import java.util.logging.Logger;
 import monitor.Recorder;
-import monitor.http.CurrentRecorder;
 import monitor.http.RecordingClient;
 import monitor.http.RecordingFilter;
 import org.apache.catalina.Context;
@@ -101,7 +100,7 @@ final class ServletTest {
                 servlet.addMapping("/*");
                 FilterRegistration.Dynamic around = application.addFilter("around", (request, response, chain) -> {
                     chain.doFilter(request, response);
-                    HttpTest.see(CurrentRecorder.get() == null, true);
+                    HttpTest.see(Recorder.current() == null, true);
                 });
                 around.setAsyncSupported(true);
                 around.addMappingForUrlPatterns(EnumSet.of(DispatcherType.REQUEST), false, "/*");
@@ -129,14 +128,14 @@ final class ServletTest {
 
     /** Is inside while it handles a request. */
     private static void inside(HttpServletRequest request, HttpServletResponse response) throws IOException {
-        CurrentRecorder.get().event(set("x", 1));
+        Recorder.current().event(set("x", 1));
         RecordingFilter.recorderOf(request).event(set("x", 0));
         response.getWriter().print("done");
     }
 
     private static void requestsOfTwoClientsHaveNoOrder(Path folder) throws Exception {
         List<Recorder> all = HttpTest.recorders(folder, "right", "ann", "bob");
-        RecordingFilter filter = new RecordingFilter(all.get(0));
+        RecordingFilter filter = RecordingFilter.byClient(all.get(0));
         try (Server server = new Server(folder, filter, Map.of("", ServletTest::inside))) {
             for (int client : new int[] {1, 2, 1}) {
                 HttpTest.see(HttpTest.get(client(all.get(client)), server.uri("")).body(), "done");
@@ -151,7 +150,7 @@ final class ServletTest {
 
     private static void requestsInOrder(Path folder) throws Exception {
         List<Recorder> all = HttpTest.recorders(folder, "right", "ann", "bob");
-        try (Server server = new Server(folder, RecordingFilter.inOrder(all.get(0)), Map.of("", ServletTest::inside))) {
+        try (Server server = new Server(folder, new RecordingFilter(all.get(0)), Map.of("", ServletTest::inside))) {
             HttpTest.get(client(all.get(1)), server.uri(""));
             HttpTest.get(client(all.get(2)), server.uri(""));
         }
@@ -206,8 +205,8 @@ final class ServletTest {
             if (request.getDispatcherType() == DispatcherType.REQUEST) {
                 request.startAsync().dispatch();
             } else {
-                HttpTest.see(CurrentRecorder.get().process(), "right_ann");
-                CurrentRecorder.get().event();
+                HttpTest.see(Recorder.current().process(), "right_ann");
+                Recorder.current().event();
                 response.getWriter().print("done");
             }
         });
@@ -216,7 +215,7 @@ final class ServletTest {
     /** Sees that the response is sent by what is written, and not only since the servlet has done its work. */
     private static Way seen(String name, Way way) {
         return (request, response) -> {
-            Recorder recorder = CurrentRecorder.get();
+            Recorder recorder = Recorder.current();
             int before = recorder.events();
             way.answer(request, response);
             if (!request.isAsyncStarted() && request.getDispatcherType() != DispatcherType.ASYNC) {
@@ -229,7 +228,7 @@ final class ServletTest {
         Map<String, Way> ways = ways();
         ways.replaceAll(ServletTest::seen);
         List<Recorder> all = HttpTest.recorders(folder, "right", "ann");
-        try (Server server = new Server(folder, new RecordingFilter(all.get(0)), ways)) {
+        try (Server server = new Server(folder, RecordingFilter.byClient(all.get(0)), ways)) {
             HttpClient client = client(all.get(1));
             int received = 0;
             for (String way : ways.keySet()) {
@@ -249,7 +248,7 @@ final class ServletTest {
         Map<String, Way> ways = Map.of("", (request, response) -> {
             throw new IllegalStateException("lost");
         });
-        try (Server server = new Server(folder, new RecordingFilter(all.get(0)), ways)) {
+        try (Server server = new Server(folder, RecordingFilter.byClient(all.get(0)), ways)) {
             HttpTest.see(HttpTest.get(client(all.get(1)), server.uri("")).statusCode(), 500);
         }
         HttpTest.judge(folder, all, "right ann right_ann", "ann.x == 1", "session 3 processes 6 events 3 messages\n");
@@ -260,14 +259,14 @@ final class ServletTest {
         CountDownLatch goOn = new CountDownLatch(1);
         Map<String, Way> ways = Map.of("", (request, response) -> {
             PrintWriter writer = response.getWriter();
-            CurrentRecorder.get().event(set("x", 1)); // to have the writer isn't to write
+            Recorder.current().event(set("x", 1)); // to have the writer isn't to write
             writer.print("do");
             writer.flush();
             goOn.await();
-            CurrentRecorder.get().event(set("x", 2));
+            Recorder.current().event(set("x", 2));
             writer.print("ne");
         });
-        try (Server server = new Server(folder, new RecordingFilter(all.get(0)), ways)) {
+        try (Server server = new Server(folder, RecordingFilter.byClient(all.get(0)), ways)) {
             HttpRequest request = HttpRequest.newBuilder(server.uri("")).build();
             InputStream body = client(all.get(1)).send(request, BodyHandlers.ofInputStream()).body();
             HttpTest.see(all.get(1).events(), 2); // the body's end hasn't come by then
@@ -298,10 +297,10 @@ final class ServletTest {
         for (String recorded : new String[] {"in and out", "in", "out", "not at all"}) {
             Path own = folder.resolve(recorded);
             List<Recorder> all = HttpTest.recorders(own, "back", "front", "ann");
-            RecordingFilter in = new RecordingFilter(recorded.contains("in") ? all.get(1) : null);
+            RecordingFilter in = RecordingFilter.byClient(recorded.contains("in") ? all.get(1) : null);
             HttpClient out = client(recorded.contains("out") ? all.get(1) : null);
             Map<String, Way> ways = Map.of("", ServletTest::inside);
-            try (Server back = new Server(own.resolve("back"), new RecordingFilter(all.get(0)), ways);
+            try (Server back = new Server(own.resolve("back"), RecordingFilter.byClient(all.get(0)), ways);
                     Server front = new Server(own.resolve("front"), in, Map.of("", proxy(out, back.uri(""))))) {
                 HttpTest.see(HttpTest.get(client(all.get(2)), front.uri("")).body(), "done");
             }
@@ -320,17 +319,17 @@ final class ServletTest {
         List<Recorder> all = HttpTest.recorders(folder, "right");
         String span = "0af7651916cd43dd8448eb211c80319c-b7ad6b7169203331";
         Map<String, Way> ways = Map.of("", (request, response) -> {
-            HttpTest.see(CurrentRecorder.get(), all.get(0));
+            HttpTest.see(Recorder.current(), all.get(0));
             HttpTest.see(RecordingFilter.recorderOf(request), all.get(0));
         });
-        try (Server server = new Server(folder, new RecordingFilter(all.get(0)), ways)) {
+        try (Server server = new Server(folder, RecordingFilter.byClient(all.get(0)), ways)) {
             for (String parent : new String[] {"00-" + span + "-01", "none"}) {
                 HttpRequest request = HttpRequest.newBuilder(server.uri("")).header("traceparent", parent).build();
                 HttpResponse<String> response = HttpClient.newHttpClient().send(request, BodyHandlers.ofString());
                 HttpTest.see(response.headers().firstValue("Monitor-Response").isPresent(), false);
             }
         }
-        HttpTest.see(CurrentRecorder.get() == null, true);
+        HttpTest.see(Recorder.current() == null, true);
         all.get(0).end();
         HttpTest.seeStream(folder, "right", "{'recv':'" + span + "'}");
     }
@@ -338,8 +337,8 @@ final class ServletTest {
     private static void withoutARecorder(Path folder) throws Exception {
         List<Recorder> all = HttpTest.recorders(folder, "ann");
         Map<String, Way> ways = Map.of("", (request, response) ->
-            response.getWriter().print(request.getHeader("Monitor-Request") + CurrentRecorder.get()));
-        try (Server server = new Server(folder, new RecordingFilter(null), ways)) {
+            response.getWriter().print(request.getHeader("Monitor-Request") + Recorder.current()));
+        try (Server server = new Server(folder, RecordingFilter.byClient(null), ways)) {
             HttpTest.see(HttpTest.get(client(all.get(0)), server.uri("")).body(), "ann-1null");
         }
     }

@@ -15,7 +15,7 @@ cd "$here" || exit 1
 export JAVA_TOOL_OPTIONS="-XX:TieredStopAtLevel=1 -XX:+UseSerialGC"
 http=monitor/http
 javac -Xlint:all -Werror -d "$folder" monitor/*.java RecorderTest.java Player.java HttpTest.java \
-  "$http"/{CurrentRecorder,Faults,ServerSide,RecordingClient,RecordingExchangeFilter}.java \
+  "$http"/{Faults,ServerSide,RecordingClient,RecordingExchangeFilter}.java \
   && timeout 300 java -cp "$folder" RecorderTest "$folder" \
   && timeout 300 java -cp "$folder" HttpTest "$folder/http" || exit 1
 python3 ../cases/page.py README.md || exit 1

@@ -120,36 +120,38 @@ func (t *transport) CloseIdleConnections() {
 // A Server is a handler that records the requests that come to it, and their responses.
 type Server struct {
 	faults
-	recorder  *record.Recorder
-	next      http.Handler
-	isInOrder bool
+	recorder   *record.Recorder
+	next       http.Handler
+	isByClient bool // whether a client that is new gets a strand
 
 	mutex    sync.Mutex
 	bySender map[string]*record.Recorder
 	strands  []*record.Recorder
 }
 
-// Handler is the handler next, whose requests are recorded by a strand of this recorder for each client: by right_left
-// if left sends to right. So the requests of one client have the order in which they came, and those of different
-// clients have none but by messages. The strand is begun as the client's first request comes, and the document names
-// it. A client is what its recorder is: each of its own strands is one.
+// Handler is the handler next, whose requests are all recorded by this recorder, in the order in which they come and do
+// things. That order is taken for a cause, and no other one is judged. It is right if what they do goes through what the
+// process keeps in memory, where a later request sees what an earlier one did, or if there is one client. If they have
+// nothing in common the order was an accident: take ByClient.
 //
 // A request with no header of ours but a traceparent is received from that span: its id is the trace's and the span's
 // with a hyphen between them. Its response isn't recorded, and neither is anything of a request without these. The
 // context of both carries this recorder.
-//
-// If no strand can be begun, as for the name of a client that is too long, or a 17th process, that is said on standard
-// error, and this recorder records the requests of each client that is new from then on.
 func Handler(recorder *record.Recorder, next http.Handler) *Server {
 	return &Server{recorder: recorder, next: next, bySender: map[string]*record.Recorder{}}
 }
 
-// InOrder is the handler next, whose requests are all recorded by this recorder, in the order in which they come. That
-// order is taken for a cause, and no other one is judged: it is right if there is one client, or if the program itself
-// handles one request after the other.
-func InOrder(recorder *record.Recorder, next http.Handler) *Server {
+// ByClient is the handler next, whose requests are recorded by a strand of this recorder for each client: by right_left
+// if left sends to right. So the requests of one client have the order in which they came, and those of different
+// clients have none but by messages, whatever they share in memory: record that too if a predicate needs it. The strand
+// is begun as the client's first request comes, and the document names it. A client is what its recorder is: each of
+// its own strands is one. Requests without an id of a recorder are recorded as Handler does.
+//
+// If no strand can be begun, as for the name of a client that is too long, or a 17th process, that is said on standard
+// error, and this recorder records the requests of each client that is new from then on.
+func ByClient(recorder *record.Recorder, next http.Handler) *Server {
 	server := Handler(recorder, next)
-	server.isInOrder = true
+	server.isByClient = true
 	return server
 }
 
@@ -173,8 +175,8 @@ func (s *Server) ServeHTTP(out http.ResponseWriter, request *http.Request) {
 	s.next.ServeHTTP(response.withAbilities(), request)
 }
 
-// Join ends the strands, and records that the process has waited for them: call it AFTER the server was shut down, if
-// the process then does anything that comes after its requests. Without it the strands end with the process.
+// Join ends the strands of ByClient, and records that the process has waited for them: call it AFTER the server was shut
+// down, if the process then does anything that comes after its requests. Without it the strands end with the process.
 func (s *Server) Join() error {
 	s.mutex.Lock()
 	defer s.mutex.Unlock()
@@ -198,9 +200,9 @@ func (s *Server) recorderFor(id string) *record.Recorder {
 	}
 	s.mutex.Lock()
 	defer s.mutex.Unlock()
-	if s.bySender[made[1]] == nil && !s.isInOrder {
+	if s.bySender[made[1]] == nil && s.isByClient {
 		s.try(func() error { return s.begin(made[1]) })
-		s.isInOrder = s.bySender[made[1]] == nil // a strand that can't be begun isn't tried again
+		s.isByClient = s.bySender[made[1]] != nil // a strand that can't be begun isn't tried again
 	}
 	if strand := s.bySender[made[1]]; strand != nil {
 		return strand

@@ -149,7 +149,7 @@ func TestTheHeadersAreThoseOfTheOtherLanguages(t *testing.T) {
 func TestRequestsOfTwoClientsHaveNoOrder(t *testing.T) {
 	folder := t.TempDir()
 	all := recorders(t, folder, "right", "ann", "bob")
-	url := served(t, Handler(all[0], inside))
+	url := served(t, ByClient(all[0], inside))
 	for _, client := range []int{1, 2, 1} {
 		see(t, get(t, all[client], url), "done")
 	}
@@ -164,7 +164,7 @@ func TestRequestsOfTwoClientsHaveNoOrder(t *testing.T) {
 func TestRequestsInOrder(t *testing.T) {
 	folder := t.TempDir()
 	all := recorders(t, folder, "right", "ann", "bob")
-	url := served(t, InOrder(all[0], inside))
+	url := served(t, Handler(all[0], inside))
 	for _, client := range all[1:] {
 		see(t, get(t, client, url), "done")
 	}
@@ -176,7 +176,7 @@ func TestRequestsInOrder(t *testing.T) {
 func TestManyAtOnce(t *testing.T) {
 	folder := t.TempDir()
 	all := recorders(t, folder, "right", "ann", "bob", "cid")
-	server := Handler(all[0], inside)
+	server := ByClient(all[0], inside)
 	url := served(t, server)
 	var group sync.WaitGroup
 	for _, client := range all[1:] {
@@ -203,7 +203,7 @@ func TestManyAtOnce(t *testing.T) {
 func TestRequestsWithoutAnID(t *testing.T) {
 	folder := t.TempDir()
 	all := recorders(t, folder, "right")
-	handler := Handler(all[0], http.HandlerFunc(func(out http.ResponseWriter, request *http.Request) {
+	handler := ByClient(all[0], http.HandlerFunc(func(out http.ResponseWriter, request *http.Request) {
 		if recorder, _ := record.FromContext(request.Context()); recorder != all[0] {
 			t.Error("the context carries another recorder")
 		}
@@ -234,8 +234,8 @@ func TestRequestsWithoutAnID(t *testing.T) {
 func TestEachRedirectIsARequest(t *testing.T) {
 	folder := t.TempDir()
 	all := recorders(t, folder, "first", "second", "ann")
-	second := served(t, Handler(all[1], inside))
-	first := served(t, Handler(all[0], http.RedirectHandler(second, http.StatusFound)))
+	second := served(t, ByClient(all[1], inside))
+	first := served(t, ByClient(all[0], http.RedirectHandler(second, http.StatusFound)))
 	see(t, get(t, all[2], first), "done")
 	judged(t, folder, all, "first second ann first_ann second_ann", "first_ann.x == 1",
 		"session 5 processes 14 events 6 messages\n")
@@ -246,7 +246,7 @@ func TestEachRedirectIsARequest(t *testing.T) {
 func TestASecondCopyIsNoReceipt(t *testing.T) {
 	folder := t.TempDir()
 	all := recorders(t, folder, "right", "ann")
-	url := served(t, Handler(all[0], inside))
+	url := served(t, ByClient(all[0], inside))
 	id, _ := all[1].Send()
 	said := saying(t, func() {
 		for i := 0; i < 2; i++ {
@@ -267,7 +267,7 @@ func TestARequestThatIsGivenUpLeavesASend(t *testing.T) {
 	all := recorders(t, folder, "right", "ann")
 	ctx, giveUp := context.WithCancel(context.Background())
 	goOn, done := make(chan bool), make(chan bool)
-	url := served(t, Handler(all[0], http.HandlerFunc(func(out http.ResponseWriter, request *http.Request) {
+	url := served(t, ByClient(all[0], http.HandlerFunc(func(out http.ResponseWriter, request *http.Request) {
 		defer func() { done <- true }()
 		giveUp()
 		<-goOn
@@ -289,7 +289,7 @@ type layer func(http.Handler) http.Handler
 // handled is what becomes of a request that has an id.
 func handled(t *testing.T, folder string, handler http.HandlerFunc, around layer) (string, error) {
 	all := recorders(t, folder, "right", "ann")
-	server := httptest.NewServer(around(Handler(all[0], handler)))
+	server := httptest.NewServer(around(ByClient(all[0], handler)))
 	defer func() {
 		server.Close()
 		all[0].End()
@@ -336,7 +336,7 @@ func TestAResponseLeavesWithItsFirstPart(t *testing.T) {
 	folder := t.TempDir()
 	all := recorders(t, folder, "right", "ann")
 	goOn := make(chan bool)
-	url := served(t, Handler(all[0], http.HandlerFunc(func(out http.ResponseWriter, request *http.Request) {
+	url := served(t, ByClient(all[0], http.HandlerFunc(func(out http.ResponseWriter, request *http.Request) {
 		out.WriteHeader(http.StatusEarlyHints)
 		recorder, _ := record.FromContext(request.Context())
 		recorder.Event(record.Set("x", 1))
@@ -412,7 +412,7 @@ type pushing struct {
 func TestHTTP2(t *testing.T) {
 	folder := t.TempDir()
 	all := recorders(t, folder, "right", "ann")
-	server := httptest.NewUnstartedServer(Handler(all[0], http.HandlerFunc(
+	server := httptest.NewUnstartedServer(ByClient(all[0], http.HandlerFunc(
 		func(out http.ResponseWriter, request *http.Request) {
 			_, pushes := out.(http.Pusher)
 			_, notifies := out.(http.CloseNotifier)
@@ -458,9 +458,9 @@ func TestProxies(t *testing.T) {
 			if strings.Contains(recorded, "out") {
 				transport = Transport(all[1], nil)
 			}
-			front := proxy(t, served(t, Handler(all[0], inside)), transport)
+			front := proxy(t, served(t, ByClient(all[0], inside)), transport)
 			if strings.Contains(recorded, "in") {
-				front = Handler(all[1], front)
+				front = ByClient(all[1], front)
 			}
 			see(t, get(t, all[2], served(t, front)), "done")
 			processes, report, _ := strings.Cut(wanted, ": ")
@@ -487,7 +487,7 @@ func TestARecorderThatFailsIsToldOnce(t *testing.T) {
 	right, _ := record.New("right", &narrow{room: 2})
 	ann, _ := record.New("ann", &narrow{room: 4})
 	transport := Transport(ann, nil)
-	handler := InOrder(right, http.HandlerFunc(func(out http.ResponseWriter, request *http.Request) {
+	handler := Handler(right, http.HandlerFunc(func(out http.ResponseWriter, request *http.Request) {
 		out.Header().Set(ResponseHeader, "another-1")
 		fmt.Fprint(out, "done")
 	}))
@@ -524,7 +524,7 @@ func TestAStrandThatCannotBegin(t *testing.T) {
 	folder := t.TempDir()
 	long := strings.Repeat("a", 30)
 	all := recorders(t, folder, "right", "ann", long, "bob")
-	url := served(t, Handler(all[0], inside))
+	url := served(t, ByClient(all[0], inside))
 	said := saying(t, func() {
 		for _, client := range []int{1, 2, 3, 1} {
 			see(t, get(t, all[client], url), "done")
@@ -538,7 +538,7 @@ func TestRequestsAtOnceAreToldOnce(t *testing.T) {
 	folder := t.TempDir()
 	all := recorders(t, folder, "right", "ann")
 	var arrived, done sync.WaitGroup
-	url := served(t, InOrder(all[0], http.HandlerFunc(func(http.ResponseWriter, *http.Request) {
+	url := served(t, Handler(all[0], http.HandlerFunc(func(http.ResponseWriter, *http.Request) {
 		arrived.Done()
 		arrived.Wait()
 	})))
@@ -592,7 +592,7 @@ func TestConnectionsAreClosed(t *testing.T) {
 func TestTheRecorderOfTheContextComesFirst(t *testing.T) {
 	folder := t.TempDir()
 	all := recorders(t, folder, "right", "ann")
-	url := served(t, Handler(all[0], inside))
+	url := served(t, ByClient(all[0], inside))
 	strand, err := all[1].Strand("ann_2")
 	if err != nil {
 		t.Fatal(err)

@@ -36,10 +36,10 @@ import monitor.Recorder;
  * }</pre>
  *
  * <p>A request is sent where it leaves, and its response is received once its head has come, before its body handler
- * sees any of it. A thread that has a {@link CurrentRecorder}, as one that handles a request, records by that one.
+ * sees any of it. A thread that has a {@link Recorder#current}, as one that handles a request, records by that.
  *
  * <p>One recorder is one order of requests. If several of one recorder are under way at once, that is said once on
- * standard error: give each task a strand, by {@link CurrentRecorder#set}.
+ * standard error: give each task a strand, and have it request {@link Recorder#within} that.
  *
  * <p>Each redirect that the client follows is a request of its own, for which it follows them itself, by the rules of
  * the JDK's client; the time limit of a request is then one of each. A copy that the JDK's client sends by itself, as
@@ -108,7 +108,7 @@ public final class RecordingClient extends HttpClient {
         if (underWay.merge(own, 1, Integer::sum) > 1 && !isAdvised) {
             isAdvised = true;
             System.err.println("monitor.http: " + own.process() + " has several requests under way at once, and their"
-                    + " order is taken for a cause: give each task a strand, by CurrentRecorder.set.");
+                    + " order is taken for a cause: give each task a strand, and have it request within that.");
         }
     }
 
@@ -190,7 +190,7 @@ public final class RecordingClient extends HttpClient {
         Hop(HttpRequest request, BodyHandler<T> handler) {
             this.request = request;
             this.handler = Objects.requireNonNull(handler);
-            this.own = Objects.requireNonNullElse(CurrentRecorder.get(), recorder);
+            this.own = Objects.requireNonNullElse(Recorder.current(), recorder);
             this.before = null;
             this.number = 1;
         }

@@ -27,7 +27,7 @@ import monitor.Recorder;
 public final class RecordingExchangeFilter extends Filter {
     private final ServerSide server;
 
-    /** A filter by which each client's requests are recorded by a strand of this recorder, or nothing, if it is null. */
+    /** A filter by which all requests are recorded by this recorder, or nothing, if it is null. */
     public RecordingExchangeFilter(Recorder recorder) {
         this(new ServerSide(recorder, false));
     }
@@ -36,8 +36,8 @@ public final class RecordingExchangeFilter extends Filter {
         this.server = server;
     }
 
-    /** A filter by which all requests are recorded by this recorder, in the order in which they come. */
-    public static RecordingExchangeFilter inOrder(Recorder recorder) {
+    /** A filter by which the requests of each client are recorded by a strand: see {@link RecordingFilter#byClient}. */
+    public static RecordingExchangeFilter byClient(Recorder recorder) {
         return new RecordingExchangeFilter(new ServerSide(recorder, true));
     }
 
@@ -61,11 +61,15 @@ public final class RecordingExchangeFilter extends Filter {
         ServerSide.Exchange recorded =
                 server.arrived(headers.getFirst(Faults.REQUEST), headers.getFirst("Traceparent"));
         boolean isWrapped = recorded.isAnswered() && !(exchange instanceof HttpsExchange);
-        Recorder before = CurrentRecorder.set(recorded.recorder());
         try {
-            chain.doFilter(isWrapped ? new Recorded(exchange, recorded) : exchange);
-        } finally {
-            CurrentRecorder.set(before);
+            recorded.recorder().call(() -> {
+                chain.doFilter(isWrapped ? new Recorded(exchange, recorded) : exchange);
+                return null;
+            });
+        } catch (IOException | RuntimeException error) {
+            throw error;
+        } catch (Exception error) {
+            throw new IOException(error); // a chain throws no other one
         }
     }
 

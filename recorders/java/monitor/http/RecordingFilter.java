@@ -28,20 +28,19 @@ import monitor.Recorder;
  *
  * <p>A request is received before it is handled, and its response is sent before its first byte is written. What a
  * servlet does after that doesn't come before the client's receipt, so record what it changes before. It records by
- * {@link CurrentRecorder#get}, or in another thread by {@link #recorderOf}.
+ * {@link Recorder#current}, or in another thread by {@link #recorderOf}.
  *
- * <p>The requests of each client are recorded by a strand of the recorder: by {@code right_left} if {@code left} sends
- * to {@code right}. So the requests of one client have the order in which they came, and those of different clients
- * have none but by messages. The strand is begun as the client's first request comes, and the document names it. A
- * client is what its recorder is: each of its own strands is one.
+ * <p>All requests are recorded by the recorder, in the order in which they come and do things. That order is taken for
+ * a cause, and no other one is judged. It is right if what they do goes through what the process keeps in memory, where
+ * a later request sees what an earlier one did, or if there is one client. If they have nothing in common the order was
+ * an accident: take {@link #byClient}.
  *
  * <p>A request with no header of ours but a {@code traceparent} is received from that span: its id is the trace's and
  * the span's with a hyphen between them. Its response isn't recorded, and neither is anything of a request without
  * these. Both are handled with the recorder itself.
  *
  * <p>Recording never fails a request. If a recorder refuses or fails, that is said once on standard error, and requests
- * go on without what it has refused. If no strand can be begun, as for the name of a client that is too long, or a 17th
- * process, the recorder itself records the requests of each client that is new from then on.
+ * go on without what it has refused.
  *
  * <p>A servlet that answers later, by {@code startAsync}, needs a filter that says so by {@code setAsyncSupported}; a
  * response without a byte isn't recorded then. Neither is what a container makes of an exception, if it drops the
@@ -51,7 +50,7 @@ public final class RecordingFilter implements Filter {
     private static final String RECORDER = Recorder.class.getName();
     private final ServerSide server;
 
-    /** A filter by which each client's requests are recorded by a strand of this recorder, or nothing, if it is null. */
+    /** A filter by which all requests are recorded by this recorder, or nothing, if it is null. */
     public RecordingFilter(Recorder recorder) {
         this(new ServerSide(recorder, false));
     }
@@ -61,11 +60,16 @@ public final class RecordingFilter implements Filter {
     }
 
     /**
-     * A filter by which all requests are recorded by this recorder, in the order in which they come. That order is
-     * taken for a cause, and no other one is judged: it is right if there is one client, or if the program itself
-     * handles one request after the other.
+     * A filter by which the requests of each client are recorded by a strand of this recorder: by {@code right_left} if
+     * {@code left} sends to {@code right}. So the requests of one client have the order in which they came, and those of
+     * different clients have none but by messages, whatever they share in memory: record that too if a predicate needs
+     * it. The strand is begun as the client's first request comes, and the document names it. A client is what its
+     * recorder is: each of its own strands is one. Requests without an id of a recorder are recorded by this one.
+     *
+     * <p>If no strand can be begun, as for the name of a client that is too long, or a 17th process, that is said on
+     * standard error, and this recorder records the requests of each client that is new from then on.
      */
-    public static RecordingFilter inOrder(Recorder recorder) {
+    public static RecordingFilter byClient(Recorder recorder) {
         return new RecordingFilter(new ServerSide(recorder, true));
     }
 
@@ -75,7 +79,7 @@ public final class RecordingFilter implements Filter {
     }
 
     /**
-     * Ends the strands, and records that the process has waited for them: call it AFTER the server was stopped, if the
+     * Ends the strands of {@link #byClient}, and records that the process has waited for them: call it AFTER the server was stopped, if the
      * process then does anything that comes after its requests. Without it the strands end with the process.
      *
      * @throws Recorder.NotRecordedException if it is refused
@@ -118,11 +122,15 @@ public final class RecordingFilter implements Filter {
 
     private static void handle(ServletRequest request, ServletResponse response, FilterChain chain)
             throws IOException, ServletException {
-        Recorder before = CurrentRecorder.set(recorderOf(request));
         try {
-            chain.doFilter(request, response);
-        } finally {
-            CurrentRecorder.set(before);
+            recorderOf(request).call(() -> {
+                chain.doFilter(request, response);
+                return null;
+            });
+        } catch (IOException | ServletException | RuntimeException error) {
+            throw error;
+        } catch (Exception error) {
+            throw new ServletException(error); // a chain throws no other one
         }
     }
 

@@ -17,11 +17,11 @@ final class ServerSide {
     private final Faults faults = new Faults();
     private final Recorder recorder;
     private final Map<String, Recorder> bySender = new LinkedHashMap<>();
-    private boolean isInOrder;
+    private boolean isByClient;
 
-    ServerSide(Recorder recorder, boolean isInOrder) {
+    ServerSide(Recorder recorder, boolean isByClient) {
         this.recorder = recorder;
-        this.isInOrder = isInOrder;
+        this.isByClient = isByClient;
     }
 
     boolean isRecording() {
@@ -49,9 +49,9 @@ final class ServerSide {
             return recorder;
         }
         String client = made.group(1);
-        if (!bySender.containsKey(client) && !isInOrder) {
+        if (!bySender.containsKey(client) && isByClient) {
             faults.attempt(() -> begin(client));
-            isInOrder = !bySender.containsKey(client); // a strand that can't be begun isn't tried again
+            isByClient = bySender.containsKey(client); // a strand that can't be begun isn't tried again
         }
         return bySender.getOrDefault(client, recorder);
     }
@@ -66,7 +66,7 @@ final class ServerSide {
             strand.end();
             recorder.join(strand);
         }
-        isInOrder = true;
+        isByClient = false;
         bySender.clear();
     }
 
