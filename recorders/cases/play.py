@@ -1,6 +1,7 @@
 #!/usr/bin/env python3
-"""play.py PLAYER [WORD..]: plays the cases, and then the trials, with a player: a program that makes the calls which it
-is told on its standard input with the recorder of its language, as README.md explains.
+"""play.py [--ends-at-limit] PLAYER [WORD..]: plays the cases, and then the trials, with a player: a program that makes
+the calls which it is told on its standard input with the recorder of its language, as README.md explains. With
+--ends-at-limit the system has to end one that writes to a file at the limit of its size; otherwise the call has to fail.
 
 Each recording is judged by the program, if that is built: crates/monitor/out/monitor, or the one that MONITOR names. A
 case that goes otherwise is printed. The last line says how many cases and trials were played, how many calls were left
@@ -27,7 +28,7 @@ MAKES_FILE = ("file ", "noted ", "replaced ")
 
 
 def play(case, players, folder):
-    """Plays a case, and gives how many calls were left out."""
+    """Plays a case, and gives how many calls were left out. It ends where no recorder can be made."""
     left_out, streams, begun = 0, {}, {}
     for call in case.calls:
         stream = streams.setdefault(call.process, Stream(folder, call.process))
@@ -37,11 +38,14 @@ def play(case, players, folder):
             for first in range(1, call.times + 1, AT_ONCE):
                 numbers = range(first, min(first + AT_ONCE, call.times + 1))
                 turns = [call.numbered(number) for number in numbers]
-                left_out += make(players.of(player), words, stream, streams, turns)
+                missing = make(players.of(player), words, stream, streams, turns)
+                left_out += missing
                 if not left_out:
                     see_notes(streams, turns)
         except Wrong as wrong:
             raise Wrong(f"{call.where}: {wrong}") from None
+        if missing and call.words.startswith(MAKES_FILE):
+            break
     for process in set(streams) - set(begun):
         players.of(process).ask("close")
     paths = [stream.path for stream in streams.values() if stream.size]
@@ -109,13 +113,16 @@ def ends(players, _folder):
 
 
 def main():
-    if len(sys.argv) < 2 or sys.argv[1].startswith("-"):
+    words = sys.argv[1:]
+    end_at_limit = words[:1] == ["--ends-at-limit"]
+    del words[:end_at_limit]
+    if not words or words[0].startswith("-"):
         sys.exit(__doc__)
     signal.alarm(MOST_SECONDS)
     plays = [(case.name, functools.partial(play, case)) for case in reading.all_cases()]
     plays += [(trial.__doc__, trial) for trial in [*trials.TRIALS, ends]]
     left_out, wrong = 0, 0
-    with Players(sys.argv[1:]) as players:
+    with Players(words, end_at_limit) as players:
         for name, one in plays:
             with tempfile.TemporaryDirectory() as folder:
                 try:

@@ -73,11 +73,12 @@ class Player:
 
 
 class Players(contextlib.ExitStack):
-    """A player for each process of a session, kept from one session to the next, since some take long to start."""
+    """A player for each process of a session, kept from one session to the next, since some take long to start. If they
+    end at a limit, SIGXFSZ ends one that writes to a file at the limit of its size."""
 
-    def __init__(self, words):
+    def __init__(self, words, end_at_limit=False):
         super().__init__()
-        self.words, self.running = words, {}
+        self.words, self.end_at_limit, self.running = words, end_at_limit, {}
 
     def of(self, process):
         if process not in self.running:

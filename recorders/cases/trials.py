@@ -26,7 +26,7 @@ CONTENDING, ENTRIES = 3, 40
 SEEN = 300
 BURST = 4000
 FILE_LIMIT = 1000
-JOIN, END = b'{"process":"left"}\n', b'{"end":true}\n'
+JOIN, INSIDE, END = b'{"process":"left"}\n', b'{"set":{"inside":1}}\n', b'{"end":true}\n'
 SECONDS = 60
 DOCUMENT = json.dumps({"processes": [{"name": "left", "vars": {"inside": 0}}, {"name": "right", "vars": {"inside": 0}}],
                        "predicates": [{"name": "both", "text": "left.inside == 1 and right.inside == 1"}]})
@@ -94,11 +94,14 @@ def with_strands(players, folder):
 def with_noted_threads(players, folder):
     """threads whose events have notes"""
     player, stream = players.of("left"), Stream(folder, "left")
-    player.ask(f"noted left {stream.word()}")
+    player.tell(f"noted left {stream.word()}")
+    if not player.has_answered("noted", "recorded"):
+        return 1
     player.ask(f"threads {THREADS} {TURNS}")
     player.ask("end")
     see(stream.added().count(b"\n") == 4 * THREADS * TURNS + 2, "the lines of the stream aren't those without notes")
     noted.see_all(stream.notes.added(), 4 * THREADS * TURNS)
+    return 0
 
 
 def for_a_lock(players, folder):
@@ -119,6 +122,7 @@ def for_a_lock(players, folder):
             see(f"\nboth possibly {answer}" in report, f"with the call {call} the report is\n{report}")
         for path in paths:
             os.unlink(path)
+    return 0
 
 
 def contended(names):
@@ -174,7 +178,9 @@ def killed_with_notes(players, folder):
     """a process that is killed while its threads record with notes, and is mended"""
     stream = Stream(folder, "left")
     with Player(players.words) as player:
-        player.ask(f"noted left {stream.word()}")
+        player.tell(f"noted left {stream.word()}")
+        if not player.has_answered("noted", "recorded"):
+            return 1
         sent = killed_flood(player)
     see_flood(sent, stream.added())
     mended = os.path.join(folder, "mended")
@@ -186,6 +192,7 @@ def killed_with_notes(players, folder):
     see(text.startswith(JOIN) and text.endswith(END), f"the mended stream isn't whole: {text[-200:]}")
     noted.see_all(stream.notes.added(), text.count(b"\n") - 2)
     see_plain(folder, stream.path)
+    return 0
 
 
 def killed_flood(player):
@@ -344,21 +351,56 @@ def at_the_limit_of_a_files_size(players, folder):
     stream = Stream(folder, "left")
     with Player(players.words) as player:
         player.ask(f"file left {stream.word()}")
-        # Whoever set no other way for SIGXFSZ is ended by it.
-        resource.prlimit(player.process.pid, resource.RLIMIT_FSIZE, (FILE_LIMIT, resource.RLIM_INFINITY))
-        answers = 0
+        events = (end_at_the_limit if players.end_at_limit else fail_at_the_limit)(player)
+    see_text(stream.added(), (JOIN + (events + 1) * INSIDE)[:FILE_LIMIT])
+
+
+def notes_at_the_limit_of_a_files_size(players, folder):
+    """notes that may grow no longer"""
+    stream = Stream(folder, "left")
+    with Player(players.words) as player:
+        player.tell(f"noted left {stream.word()}")
+        if not player.has_answered("noted", "recorded"):
+            return 1
+        events = fail_at_the_limit(player)
+    see_text(stream.added(), JOIN + events * INSIDE)
+    notes = stream.notes.added()
+    see(len(notes) == FILE_LIMIT, f"there are {len(notes)} bytes of notes")
+    noted.see_all(notes[:notes.rindex(b"\n") + 1], events)
+    return 0
+
+
+def limit_files(player):
+    """Limits the size of its files. Whoever set no other way for SIGXFSZ is ended by it."""
+    resource.prlimit(player.process.pid, resource.RLIMIT_FSIZE, (FILE_LIMIT, resource.RLIM_INFINITY))
+
+
+def end_at_the_limit(player):
+    """Has events recorded until SIGXFSZ ends the player since a file may grow no longer, and gives how many are."""
+    limit_files(player)
+    events = (FILE_LIMIT - len(JOIN)) // len(INSIDE)
+    for _ in range(events):
+        player.ask("event inside=1")
+    player.tell("event inside=1")
+    see(player.process.wait() == -signal.SIGXFSZ, "the player isn't ended by SIGXFSZ")
+    return events
+
+
+def fail_at_the_limit(player):
+    """Has events recorded until a call fails since a file may grow no longer, and gives how many are."""
+    limit_files(player)
+    events = 0
+    player.tell("event inside=1")
+    while (answer := player.answer()) == "recorded":
+        events += 1
+        see(events < FILE_LIMIT, "a line over the limit is still recorded")
         player.tell("event inside=1")
-        while (answer := player.answer()) == "recorded":
-            answers += 1
-            see(answers < FILE_LIMIT, "a line over the limit is still recorded")
-            player.tell("event inside=1")
-        see_text(answer, "failed")
-        player.ask("event", "refused broken")
-        player.ask("events", f"recorded {answers}")
-        player.ask("end", "refused broken")
-        player.end()
-    line = b'{"set":{"inside":1}}\n'
-    see_text(stream.added(), (JOIN + (answers + 1) * line)[:FILE_LIMIT])
+    see_text(answer, "failed")
+    player.ask("event", "refused broken")
+    player.ask("events", f"recorded {events}")
+    player.ask("end", "refused broken")
+    player.end()
+    return events
 
 
 @contextlib.contextmanager
@@ -388,13 +430,14 @@ def interrupted_by_signals(players, folder):
             return 1
         with interrupted(player):
             reads_late_by(player)
-            player.ask(f"file left {stream.word()}")
+            player.ask(f"noted left {stream.word()}")
             for number in range(SEEN):
                 player.ask("send", f"recorded left-{number + 1}")
             player.ask("end")
         player.end()
     lines = "".join(f'{{"send":"left-{number + 1}"}}\n' for number in range(SEEN))
     see_text(stream.added(), JOIN + lines.encode() + END)
+    noted.see_all(stream.notes.added(), SEEN)
     return 0
 
 
@@ -468,7 +511,6 @@ def served_with_a_strand(players, folder):
 
 
 TRIALS = [with_threads, with_strands, with_noted_threads, for_a_lock, killed_at_rest, killed_at_work,
-          killed_with_notes, lines_as_they_are_recorded,
-          strand_over_a_connection, without_an_end_over_a_connection, killed_over_a_connection, gone, nobody_listens,
-          listens_later, reads_late, at_the_limit_of_a_files_size, interrupted_by_signals, served,
-          served_with_a_strand]
+          killed_with_notes, lines_as_they_are_recorded, strand_over_a_connection, without_an_end_over_a_connection,
+          killed_over_a_connection, gone, nobody_listens, listens_later, reads_late, at_the_limit_of_a_files_size,
+          notes_at_the_limit_of_a_files_size, interrupted_by_signals, served, served_with_a_strand]

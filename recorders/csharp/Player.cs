@@ -99,7 +99,8 @@ internal sealed class Player
             case "threads": Run(int.Parse(words[0]), thread => TakeTurns(thread, int.Parse(words[1]))); break;
             case "strands": TakeStrands(int.Parse(words[0]), int.Parse(words[1])); break;
             case "flood": Run(int.Parse(words[0]), _ => SendAll()); break;
-            case "send-text": case "lock": case "unlock": case "put": case "take": throw new NotSupportedException();
+            case "send-text": case "lock": case "unlock": case "put": case "take": case "locked": case "unlocked":
+            case "noted": case "replaced": case "note": case "signals": throw new NotSupportedException();
             default: throw new InvalidOperationException("no call " + call);
         }
         return null;

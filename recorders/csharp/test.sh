@@ -14,4 +14,4 @@ mcs -warnaserror -out:"$folder/test.exe" MonitorRecorder.cs RecorderTest.cs \
   && timeout 300 mono "$folder/test.exe" "$folder" || exit 1
 python3 ../cases/page.py README.md || exit 1
 mcs -warnaserror -out:"$folder/player.exe" MonitorRecorder.cs Player.cs || exit 1
-python3 ../cases/play.py mono "$folder/player.exe"
+python3 ../cases/play.py --ends-at-limit mono "$folder/player.exe"

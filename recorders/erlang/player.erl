@@ -40,6 +40,10 @@ make(<<"port">>, [Process, Port, Seconds], _) ->
     Milliseconds = round(1000 * number(Seconds)),
     begun(Process, monitor_recorder:to_port(text(Process), binary_to_integer(Port), Milliseconds));
 make(<<"close">>, [], #played{process = none}) -> ok;
+make(Call, _, _) when Call =:= <<"send-text">>; Call =:= <<"lock">>; Call =:= <<"unlock">>; Call =:= <<"put">>;
+                      Call =:= <<"take">>; Call =:= <<"locked">>; Call =:= <<"unlocked">>; Call =:= <<"noted">>;
+                      Call =:= <<"replaced">>; Call =:= <<"note">>; Call =:= <<"signals">> ->
+    throw(cannot);
 make(<<"in">>, [Name, Call | Words], #played{process = Process} = Played) ->
     case make(Call, Words, Played#played{process = Name}) of
         #played{} = Next -> Next#played{process = Process};
@@ -79,10 +83,7 @@ record(<<"strands">>, [Count, Turns], Recorder) ->
     Strands = [monitor_recorder:strand(Recorder, <<"strand", (integer_to_binary(Number - 1))/binary>>)
                || Number <- lists:seq(1, binary_to_integer(Count))],
     run(length(Strands), fun(Number) -> take_strand(lists:nth(Number + 1, Strands), binary_to_integer(Turns)) end),
-    lists:foreach(fun(Strand) -> monitor_recorder:join(Recorder, Strand) end, Strands);
-record(Call, _, _) when Call =:= <<"send-text">>; Call =:= <<"lock">>; Call =:= <<"unlock">>; Call =:= <<"put">>;
-                        Call =:= <<"take">> ->
-    throw(cannot).
+    lists:foreach(fun(Strand) -> monitor_recorder:join(Recorder, Strand) end, Strands).
 
 %% Holds the number that all share, so that it changes and is recorded at once.
 count(Recorder, Total) ->

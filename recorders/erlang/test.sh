@@ -16,4 +16,5 @@ export ERL_AFLAGS="+S 2:2 +sbwt none +sbwtdcpu none +sbwtdio none" ERL_CRASH_DUM
 erlc -Wall -Werror -o "$folder" monitor_recorder.erl test_monitor_recorder.erl lease.erl player.erl || exit 1
 timeout 300 erl -noshell -kernel logger_level critical -pa "$folder" -run test_monitor_recorder main || exit 1
 python3 ../cases/page.py README.md || exit 1
-python3 ../cases/play.py erl -noshell -pa "$folder" -run player main
+# A node is ended by SIGXFSZ unless it is ignored.
+python3 ../cases/play.py bash -c "trap '' XFSZ; exec \"\$@\"" player erl -noshell -pa "$folder" -run player main
