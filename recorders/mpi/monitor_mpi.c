@@ -100,8 +100,25 @@ static void say(const char *format, ...)
     fprintf(stderr, "monitor_mpi: %s: %s\n", process, text);
 }
 
+/* The file beside the stream that has this ending, or the stream itself, gets another name; whether it has it. */
+static bool put_aside(const char *ending, char **name)
+{
+    int stem = (int)(strlen(stream_path) - strlen(".stream"));
+    size_t room = (size_t)stem + strlen(ending) + sizeof ".given-up";
+    char *path = malloc(room);
+    *name = malloc(room);
+    bool is_done = false;
+    if (path != NULL && *name != NULL) {
+        snprintf(path, room, "%.*s%s", stem, stream_path, ending);
+        snprintf(*name, room, "%.*s%s.given-up", stem, stream_path, ending);
+        is_done = rename(path, *name) == 0;
+    }
+    free(path);
+    return is_done;
+}
+
 /* Nothing more is recorded. The stream has no end line, and gets another name, so that nothing takes it for one of a
- * process that was killed. The recorder isn't closed, since another thread may be in it. */
+ * process that was killed, and so do its notes. The recorder isn't closed, since another thread may be in it. */
 static void give_up(const char *reason)
 {
     if (!atomic_exchange(&is_recording, false))
@@ -109,14 +126,12 @@ static void give_up(const char *reason)
     say("%s: %s: nothing more is recorded", calling, reason);
     if (stream_path == NULL)
         return;
-    size_t room = strlen(stream_path) + sizeof ".given-up";
-    char *aside = malloc(room);
-    if (aside == NULL)
-        return;
-    snprintf(aside, room, "%s.given-up", stream_path);
-    if (rename(stream_path, aside) == 0)
-        say("what was recorded is in %s, and no stream of a session", aside);
-    free(aside);
+    char *stream, *notes;
+    put_aside(".notes.jsonl", &notes);
+    if (put_aside(".stream", &stream))
+        say("what was recorded is in %s, and no stream of a session", stream);
+    free(notes);
+    free(stream);
 }
 
 static void look_at(monitor_status status)
@@ -139,11 +154,14 @@ static void *allocated(void *old, size_t size)
 
 /* Events */
 
+/* What the note of an event says, if there are notes: the call in which it is recorded, but not its line. */
+#define CALL (&(const monitor_note){NULL, 0, calling})
+
 static void record_event(void)
 {
     size_t count = kept_count;
     kept_count = 0;
-    look_at(monitor_event(recorder, kept, count));
+    look_at(monitor_event_at(CALL, recorder, kept, count));
 }
 
 /* Records the receipt that is held: the last one with what was kept. */
@@ -153,7 +171,7 @@ static void release_held(bool is_last)
     if (held[0] == '\0')
         return;
     kept_count -= count;
-    look_at(monitor_receive(recorder, held, kept, count));
+    look_at(monitor_receive_at(CALL, recorder, held, kept, count));
     held[0] = '\0';
 }
 
@@ -168,7 +186,7 @@ static void record_send(const char *id)
     release_held(false);
     size_t count = kept_count;
     kept_count = 0;
-    look_at(monitor_send_as(recorder, id, kept, count));
+    look_at(monitor_send_as_at(CALL, recorder, id, kept, count));
 }
 
 /* Before a call of the program is done: whether it is recorded. */

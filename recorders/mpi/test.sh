@@ -57,6 +57,18 @@ says() {
   [ "$files" = "${3-rank0.stream.given-up rank1.stream.given-up}" ] || fail "$1: there are $files"
 }
 
+# notes: each event has its note, with the call in which it was recorded
+notes() {
+  MONITOR_NOTES=1 run 6 messages 1 || { cat said; fail "messages can't be run with notes"; }
+  for stream in recorded/*.stream; do
+    local of_calls call='"text": "\(MPI_[A-Z][a-z_]*\|monitor_mpi_[a-z_]*\)", "place": ""'
+    of_calls=$(grep -c "$call" "${stream%.stream}.notes.jsonl")
+    [ $((of_calls + 2)) = "$(wc -l < "$stream")" ] || fail "$of_calls events of $stream have notes"
+  done
+  MONITOR_NOTES=1 says name "rank0: monitor_mpi_set: not a name of a variable" \
+    "rank0.notes.jsonl.given-up rank0.stream.given-up rank1.notes.jsonl.given-up rank1.stream.given-up"
+}
+
 refuses() {
   says threads "rank0: MPI_[A-Z][a-z]*: two threads are in MPI at once"
   says cancel-send "rank0: MPI_Cancel: a send is cancelled" "rank0.stream.given-up rank1.stream"
@@ -92,6 +104,7 @@ make -s MPICC=mpicc C="$here/../c" CFLAGS="-O2 -Werror -Wpedantic -Wshadow" || f
 # shellcheck disable=SC2086 # there are several flags
 mpicc $flags -o program "$here/test_monitor_mpi.c" || fail "the test isn't compiled"
 records 1 2
+notes
 refuses
 ends
 
