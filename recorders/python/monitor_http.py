@@ -27,7 +27,7 @@ from monitor_recorder import CURRENT, current
 REQUEST, RESPONSE, TRACE = "Monitor-Request", "Monitor-Response", "traceparent"
 # Version, trace, span and flags, as W3C's Trace Context has them. A later version may have more behind them.
 TRACE_FORM = re.compile(r"(?!ff)[0-9a-f]{2}-(?!0{32})([0-9a-f]{32}-(?!0{16})[0-9a-f]{16})-[0-9a-f]{2}(?:-.*)?")
-MADE_ID = re.compile(r"([A-Za-z_][A-Za-z0-9_]*)-[0-9]+")
+MADE_ID = re.compile(r"([A-Za-z_][A-Za-z0-9_]{0,31})-[0-9]+")
 # Is this code called by an adapter of a session, which records the request itself?
 IS_RECORDED = contextvars.ContextVar("monitor_http", default=False)
 # The kinds of failures that were said.
