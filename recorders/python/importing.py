@@ -10,6 +10,7 @@ import signal
 import sys
 import tempfile
 import threading
+import warnings
 
 from monitor_recorder import EVENT_LIMIT, NotRecorded, Recorder, checked_name, checked_value, checked_variables
 
@@ -94,9 +95,12 @@ class Event:
 
 
 def compiled(pattern):
-    """The pattern, in which a named group may also be written as in JavaScript, `(?<name>..)`."""
+    """The pattern, in which a named group may also be written as in JavaScript, `(?<name>..)`. What Python warns of, as
+    of `[[`, isn't said."""
     try:
-        return re.compile(re.sub(r"\(\?<(?![=!])", "(?P<", pattern), re.MULTILINE)
+        with warnings.catch_warnings():
+            warnings.simplefilter("ignore")
+            return re.compile(re.sub(r"\(\?<(?![=!])", "(?P<", pattern), re.MULTILINE)
     except re.error as error:
         raise argparse.ArgumentTypeError(f"{error} in {pattern!r}") from None
 

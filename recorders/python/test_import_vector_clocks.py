@@ -288,6 +288,7 @@ class RefusedLogs(Case):
         for words, why in (
                 (["--pattern", "(?<host>.)"], "argument --pattern: it has no groups host, clock and event"),
                 (["--pattern", "("], "argument --pattern: missing ), unterminated subpattern at position 0 in '('"),
+                (["--pattern", "[[a"], "argument --pattern: unterminated character set at position 0 in '[[a'"),
                 (["--variables", "x"], "argument --variables: 'x' has no named group"),
                 (["--when", "x", "y"], "'y' isn't NAME=WHOLE NUMBER"),
                 (["--name", "a"], "argument --name: 'a' isn't HOST=NAME"),
@@ -297,6 +298,7 @@ class RefusedLogs(Case):
                  "a process has at most 16 variables, and not 17")):
             status, _, errors = self.run_on([CLIENT], *words)
             self.assertEqual((status, errors.splitlines()[-1].partition("error: ")[2]), (2, why))
+            self.assertNotIn("Warning", errors)
 
 
 # Whether splitting changes an answer: small runs at random, judged as they are and as they are imported.
