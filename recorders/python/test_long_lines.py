@@ -161,7 +161,7 @@ class OwnPatterns(Case):
     def hold(self, patterns):
         for pattern in patterns:
             for text in self.TEXTS:
-                pattern.search(text)
+                pattern.search(text.encode() if isinstance(pattern.pattern, bytes) else text)
         return len(patterns)
 
     def test_of_programs(self):
