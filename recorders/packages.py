@@ -3,10 +3,12 @@
 installed without a network into an empty project, whose program records two events; the stream has to be the same in
 all languages. The folders of the recorders are copied first, so that nothing is left in them.
 
-Each package has the version of the program, which stands in crates/app_arguments/src/commands.rt. With --write it is
-put into the packages' files. What can't be tried since a tool is missing is named in the last line. The status is 1 if
+Each package has the version of the program, which stands in crates/app_arguments/src/commands.rt, and Go's module the
+path in go/place, by which Go fetches it from where the repository is. With --write both are put into all files that
+have them. What can't be tried since a tool is missing is named in the last line. The status is 1 if
 anything is wrong."""
 import concurrent.futures
+import glob
 import os
 import re
 import shutil
@@ -20,6 +22,9 @@ SOURCE = os.path.join(HERE, "..", "crates", "app_arguments", "src", "commands.rt
 VERSIONS = {"python/pyproject.toml": r'^version = "(.*)"$', "javascript/package.json": r'^  "version": "(.*)",$',
             "rust/Cargo.toml": r'^version = "(.*)"$', "c/monitor_recorder.pc": r"^Version: (.*)$",
             "java/pom.xml": r"^  <version>(.*)</version>$"}
+# The path of Go's module, and the files that have it too.
+PLACE, GO_MODULE = "go/place", "go/go.mod"
+WITH_PLACE = ["README.md", "go/README.md", GO_MODULE, "go/**/*.go"]
 STREAM = """{"process":"left"}
 {"set":{"inside":1}}
 {"send":"left-1","set":{"inside":0}}
@@ -45,8 +50,8 @@ GO = """package main
 import (
 	"net/http"
 
-	"monitor.example/record"
-	"monitor.example/record/httprec"
+	"PLACE"
+	"PLACE/httprec"
 )
 
 func main() {
@@ -219,9 +224,10 @@ def try_javascript(project):
 
 def try_go(project):
     need("go")
-    project.write("go.mod", "module program.example\n\ngo 1.19\n\nrequire monitor.example/record v0.0.0\n\n"
-                            "replace monitor.example/record => ../package\n")
-    project.write("main.go", GO)
+    place = contents(PLACE).strip()
+    project.write("go.mod", f"module program.example\n\ngo 1.19\n\nrequire {place} v0.0.0\n\n"
+                            f"replace {place} => ../package\n")
+    project.write("main.go", GO.replace("PLACE", place))
     project.run("go", "run", ".", GOPROXY="off", GOFLAGS="-mod=mod")
 
 
@@ -282,9 +288,29 @@ def try_package(language):
     return None if found == STREAM else f"{language}: its program recorded\n{found}and not\n{STREAM}", None
 
 
+def contents(name):
+    with open(os.path.join(HERE, name), encoding="utf-8") as file:
+        return file.read()
+
+
 def version():
-    with open(SOURCE, encoding="utf-8") as file:
-        return re.search(r'^const VERSION: &str = "(.*)";$', file.read(), re.M)[1]
+    return re.search(r'^const VERSION: &str = "(.*)";$', contents(SOURCE), re.M)[1]
+
+
+def wrong_place(write):
+    """What is wrong with the path of Go's module, or nothing if it is to be written."""
+    place, module = contents(PLACE).strip(), re.search(r"^module (\S+)$", contents(GO_MODULE), re.M)[1]
+    if module == place:
+        return
+    if not write:
+        yield f"{GO_MODULE} has the path {module}, and {PLACE} {place}: packages.py --write mends it"
+        return
+    for pattern in WITH_PLACE:
+        for path in glob.glob(os.path.join(HERE, pattern), recursive=True):
+            text = contents(path)
+            if module in text:
+                with open(path, "w", encoding="utf-8") as file:
+                    file.write(text.replace(module, place))
 
 
 def wrong_versions(write):
@@ -305,7 +331,7 @@ def main(words):
     if words not in ([], ["--write"]):
         print(__doc__, file=sys.stderr)
         return 2
-    wrong = list(wrong_versions(words == ["--write"]))
+    wrong = [*wrong_versions(words == ["--write"]), *wrong_place(words == ["--write"])]
     with concurrent.futures.ThreadPoolExecutor() as pool:
         found = list(pool.map(try_package, TRIED))
     wrong += [why for why, _ in found if why]
