@@ -8,8 +8,10 @@
 #include <errno.h>
 #include <fcntl.h>
 #include <inttypes.h>
+#include <netdb.h>
 #include <netinet/in.h>
 #include <netinet/tcp.h>
+#include <poll.h>
 #include <pthread.h>
 #include <signal.h>
 #include <stdbool.h>
@@ -18,6 +20,7 @@
 #include <string.h>
 #include <sys/socket.h>
 #include <sys/stat.h>
+#include <sys/un.h>
 #include <time.h>
 #include <unistd.h>
 
@@ -36,6 +39,13 @@ _Static_assert(9 + 6 * MONITOR_ID_BYTE_LIMIT + 9 + MONITOR_VARIABLE_LIMIT * (MON
 #define SLOTS 32768
 
 static const char ending[] = ".stream", notes_ending[] = ".notes.jsonl";
+
+/* Where a monitor listens: at a port, in digits, of a host; or, without a port, by a socket with a path. */
+typedef struct {
+    char host[256];
+    char port[6];
+    double seconds; /* for which somebody is waited for who listens there */
+} listener;
 
 /* A line, in an array that has room for it. */
 typedef struct {
@@ -56,15 +66,14 @@ struct monitor_recorder {
     size_t sends;
     char process[MONITOR_NAME_BYTE_LIMIT + 1];
     char last[MONITOR_ID_ROOM]; /* the id of the message by which a strand has ended, or no text */
-    /* The strands of the process, and where their streams are: in a folder, whose name ends with a slash, or at a port.
-     * The lock is taken after that of a recorder, and no other one after it. */
+    /* The strands of the process, and where their streams are: in a folder, whose name ends with a slash, or where a
+     * monitor listens. The lock is taken after that of a recorder, and no other one after it. */
     pthread_mutex_t family;
     size_t strand_count;
     monitor_recorder *strands[MONITOR_PROCESS_LIMIT - 1];
     char *folder;
     int options;
-    uint16_t port;
-    double seconds;
+    listener where;
     size_t variable_count;
     char variables[MONITOR_VARIABLE_LIMIT][MONITOR_NAME_BYTE_LIMIT + 1];
     /* The ids that were sent or received, and for each hash the place of an id and 1, or 0. */
@@ -513,58 +522,264 @@ static char *folder_of(const char *path)
     return folder;
 }
 
-monitor_status monitor_to_file_with(const char *process, const char *path, int options, monitor_recorder **made)
+/* The path of the file of this incarnation, if that of the first one is given, or that of what it stands in until it
+ * gets its name, with this number from 1 on; NULL if there is no memory. */
+static char *path_of(const char *first, size_t incarnation, size_t part)
+{
+    const char *slash = strrchr(first, '/');
+    const char *name = slash == NULL ? first : slash + 1;
+    const char *dot = strrchr(name, '.');
+    size_t room = strlen(first) + 100;
+    int stem = (int)(dot == NULL || dot == name ? strlen(first) : (size_t)(dot - first));
+    char number[24] = "", more[24] = "", ending_of_part[64] = "";
+    char *path = malloc(room);
+    if (path == NULL)
+        return NULL;
+    if (incarnation > 1)
+        snprintf(number, sizeof number, "_%zu", incarnation);
+    if (part > 1)
+        snprintf(more, sizeof more, "-%zu", part);
+    if (part > 0)
+        snprintf(ending_of_part, sizeof ending_of_part, ".%jd%s.part", (intmax_t)getpid(), more);
+    snprintf(path, room, "%.*s%s%s%s", stem, first, number, first + stem, ending_of_part);
+    return path;
+}
+
+/* Whether there is something by this path, be it a link that leads nowhere. */
+static bool is_there(const char *path)
+{
+    struct stat kind;
+    return lstat(path, &kind) == 0;
+}
+
+/* The first of the paths that isn't there yet, of an incarnation or of its part; NULL if there is no memory. */
+static char *free_path(const char *first, size_t *incarnation, size_t *part)
+{
+    size_t *number = part == NULL ? incarnation : part;
+    for (;; (*number)++) {
+        char *path = path_of(first, *incarnation, part == NULL ? 0 : *part);
+        if (path == NULL || !is_there(path))
+            return path;
+        free(path);
+    }
+}
+
+/* Has this process hold a lock of this kind on the whole file for as long as it runs, or until it closes it. */
+static bool set_lock(int descriptor, short kind)
+{
+    struct flock lock = {.l_type = kind, .l_whence = SEEK_SET};
+    return fcntl(descriptor, F_SETLK, &lock) == 0;
+}
+
+/* Whether an earlier incarnation still runs, if a lock of it on its file shows that. */
+static monitor_status check_running(const char *first, size_t incarnation)
+{
+    char *path = path_of(first, incarnation, 0);
+    int descriptor = path == NULL ? -1 : open(path, O_RDONLY | O_CLOEXEC);
+    int reason = errno;
+    free(path);
+    errno = reason;
+    if (descriptor < 0)
+        return MONITOR_SYSTEM;
+    bool is_locked = !set_lock(descriptor, F_RDLCK) && (errno == EACCES || errno == EAGAIN);
+    close(descriptor);
+    return is_locked ? MONITOR_RUNNING : MONITOR_RECORDED;
+}
+
+/* The name of an incarnation, in which there is room for it. */
+static const char *name_of(char *name, size_t room, const char *process, size_t incarnation)
+{
+    snprintf(name, room, incarnation > 1 ? "%s_%zu" : "%s", process, incarnation);
+    return name;
+}
+
+/* Records the incarnation of this name to the part of its file, with a lock, and gives it its path once the receipt
+ * stands in it, so that it has that whenever the process is killed. Notes that are there are of an incarnation that was
+ * killed before. The id is that of the message by which it comes after the one before, or NULL. */
+static monitor_status record_part(const monitor_note *note, const char *name, const char *id, const char *part,
+                                  const char *path, int options, monitor_recorder **made)
 {
     int notes = -1;
+    int descriptor = new_file(part, 0);
+    if (descriptor < 0)
+        return MONITOR_SYSTEM;
+    set_lock(descriptor, F_WRLCK);
+    bool is_open = (options & MONITOR_NOTES) == 0 || open_notes(path, MONITOR_NOTES | MONITOR_REPLACE, &notes);
+    monitor_status status = is_open ? over_files(name, descriptor, notes, made) : MONITOR_SYSTEM;
+    if (!is_open)
+        close(descriptor);
+    if (status == MONITOR_RECORDED && id != NULL)
+        status = monitor_receive_at(note, *made, id, MONITOR_NOTHING);
+    if (status == MONITOR_RECORDED && rename(part, path) != 0)
+        status = MONITOR_SYSTEM;
+    int reason = errno;
+    if (status != MONITOR_RECORDED) {
+        if (*made != NULL)
+            monitor_abandon_at(note, *made);
+        *made = NULL;
+        unlink(part);
+    }
+    errno = reason;
+    return status;
+}
+
+/* Records to the first file of the process that isn't there yet. */
+static monitor_status to_incarnation(const monitor_note *note, const char *process, const char *first, int options,
+                                     monitor_recorder **made)
+{
+    char name[2 * MONITOR_NAME_BYTE_LIMIT], before[2 * MONITOR_NAME_BYTE_LIMIT], id[3 * MONITOR_NAME_BYTE_LIMIT];
+    size_t number = 1, part_number = 1;
+    char *path = free_path(first, &number, NULL);
+    char *part = path == NULL ? NULL : free_path(first, &number, &part_number);
+    monitor_status status = part == NULL ? MONITOR_SYSTEM : MONITOR_RECORDED;
+    if (status == MONITOR_RECORDED && number > 1)
+        status = check_running(first, number - 1);
+    if (status == MONITOR_RECORDED && !is_name(name_of(name, sizeof name, process, number)))
+        status = MONITOR_PROCESS_NAME;
+    if (status == MONITOR_RECORDED) {
+        snprintf(id, sizeof id, "%s-ended", name_of(before, sizeof before, process, number - 1));
+        status = record_part(note, name, number > 1 ? id : NULL, part, path, options, made);
+    }
+    int reason = errno;
+    free(path);
+    free(part);
+    errno = reason;
+    return status;
+}
+
+monitor_status monitor_to_file_with_at(const monitor_note *note, const char *process, const char *path, int options,
+                                       monitor_recorder **made)
+{
+    int notes = -1;
+    monitor_status status;
     *made = NULL;
     if (!is_name(process))
         return MONITOR_PROCESS_NAME;
     if ((options & MONITOR_NOTES) != 0 && !has_ending(path))
         return MONITOR_NO_NOTES;
+    if ((options & MONITOR_AGAIN) != 0 && (options & MONITOR_REPLACE) != 0)
+        return MONITOR_NOT_AGAIN;
     char *folder = folder_of(path);
     if (folder == NULL)
         return MONITOR_SYSTEM;
-    int descriptor = open_files(path, options, &notes);
-    monitor_status status = descriptor < 0 ? MONITOR_SYSTEM : over_files(process, descriptor, notes, made);
+    if ((options & MONITOR_AGAIN) != 0) {
+        status = to_incarnation(note, process, path, options, made);
+    } else {
+        int descriptor = open_files(path, options, &notes);
+        status = descriptor < 0 ? MONITOR_SYSTEM : over_files(process, descriptor, notes, made);
+    }
+    int reason = errno;
     if (status == MONITOR_RECORDED) {
         (*made)->folder = folder;
-        (*made)->options = options;
+        (*made)->options = options & ~MONITOR_AGAIN;
     } else {
         free(folder);
     }
+    errno = reason;
     return status;
 }
 
 monitor_status monitor_to_file(const char *process, const char *path, monitor_recorder **made)
 {
-    return monitor_to_file_with(process, path, 0, made);
+    return monitor_to_file_with_at(NULL, process, path, 0, made);
 }
 
 /* Whether both ends are one: so a connection can come to be to a port that nobody has bound. */
 static bool is_with_itself(int connection)
 {
-    struct sockaddr_in here = {0}, there = {0};
+    union {
+        struct sockaddr any;
+        struct sockaddr_in four;
+        struct sockaddr_in6 six;
+    } here = {.any = {.sa_family = AF_UNSPEC}}, there = {.any = {.sa_family = AF_UNSPEC}};
     socklen_t here_size = sizeof here, there_size = sizeof there;
-    return getsockname(connection, (struct sockaddr *)&here, &here_size) == 0 &&
-           getpeername(connection, (struct sockaddr *)&there, &there_size) == 0 && here.sin_port == there.sin_port;
+    if (getsockname(connection, &here.any, &here_size) != 0 || getpeername(connection, &there.any, &there_size) != 0)
+        return false;
+    if (here.any.sa_family == AF_INET6)
+        return here.six.sin6_port == there.six.sin6_port &&
+               memcmp(&here.six.sin6_addr, &there.six.sin6_addr, sizeof here.six.sin6_addr) == 0;
+    return here.four.sin_port == there.four.sin_port && here.four.sin_addr.s_addr == there.four.sin_addr.s_addr;
 }
 
-/* A connection to a port of this machine; -1 with errno if there is none. */
-static int connection_to(uint16_t port)
+/* Connects within these seconds, or one; false with errno if that fails. */
+static bool connect_within(int connection, const struct sockaddr *address, socklen_t size, double seconds)
 {
-    struct sockaddr_in address = {.sin_family = AF_INET, .sin_port = htons(port)};
-    address.sin_addr.s_addr = htonl(INADDR_LOOPBACK);
-    int connection = socket(AF_INET, SOCK_STREAM, 0);
+    int flags = fcntl(connection, F_GETFL), failure = 0, answered = 0;
+    socklen_t failure_size = sizeof failure;
+    struct pollfd waited = {.fd = connection, .events = POLLOUT};
+    fcntl(connection, F_SETFL, flags | O_NONBLOCK);
+    bool is_made = connect(connection, address, size) == 0;
+    if (!is_made && errno == EINPROGRESS) {
+        int milliseconds = seconds < 1 ? 1000 : seconds > 1e6 ? -1 : (int)(seconds * 1000);
+        do {
+            answered = poll(&waited, 1, milliseconds);
+        } while (answered < 0 && errno == EINTR);
+        if (answered == 0)
+            errno = ETIMEDOUT;
+        else if (answered > 0 && getsockopt(connection, SOL_SOCKET, SO_ERROR, &failure, &failure_size) == 0)
+            errno = failure;
+        is_made = answered > 0 && failure == 0;
+    }
+    int reason = errno;
+    fcntl(connection, F_SETFL, flags);
+    errno = reason;
+    return is_made;
+}
+
+/* A connection to this address of a port; -1 with errno if there is none. */
+static int connection_at(const struct addrinfo *address, double seconds)
+{
+    int connection = socket(address->ai_family, SOCK_STREAM, 0);
     if (connection < 0)
         return -1;
     fcntl(connection, F_SETFD, FD_CLOEXEC);
-    bool is_made = connect(connection, (struct sockaddr *)&address, sizeof address) == 0;
+    bool is_made = connect_within(connection, address->ai_addr, address->ai_addrlen, seconds);
     if (is_made && !is_with_itself(connection)) {
         int at_once = 1;
         setsockopt(connection, IPPROTO_TCP, TCP_NODELAY, &at_once, sizeof at_once);
         return connection;
     }
     int reason = is_made ? ECONNREFUSED : errno;
+    close(connection);
+    errno = reason;
+    return -1;
+}
+
+/* A connection to a port; -1 with errno if there is none. A host that nobody knows is one to which no way leads. */
+static int connection_to_port(const listener *where)
+{
+    struct addrinfo wanted = {.ai_socktype = SOCK_STREAM, .ai_flags = AI_NUMERICSERV}, *found = NULL;
+    int connection = -1;
+    int failure = getaddrinfo(where->host, where->port, &wanted, &found);
+    if (failure != 0) {
+        if (failure != EAI_SYSTEM)
+            errno = failure == EAI_MEMORY ? ENOMEM : EHOSTUNREACH;
+        return -1;
+    }
+    for (const struct addrinfo *next = found; next != NULL && connection < 0; next = next->ai_next)
+        connection = connection_at(next, where->seconds);
+    int reason = errno;
+    freeaddrinfo(found);
+    errno = reason;
+    return connection;
+}
+
+/* A connection to a socket with a path; -1 with errno if there is none. */
+static int connection_to_socket(const char *path)
+{
+    struct sockaddr_un address = {.sun_family = AF_UNIX};
+    if (strlen(path) >= sizeof address.sun_path) {
+        errno = ENAMETOOLONG;
+        return -1;
+    }
+    strcpy(address.sun_path, path);
+    int connection = socket(AF_UNIX, SOCK_STREAM, 0);
+    if (connection < 0)
+        return -1;
+    fcntl(connection, F_SETFD, FD_CLOEXEC);
+    if (connect(connection, (struct sockaddr *)&address, sizeof address) == 0)
+        return connection;
+    int reason = errno;
     close(connection);
     errno = reason;
     return -1;
@@ -577,45 +792,104 @@ static double seconds_now(void)
     return (double)now.tv_sec + (double)now.tv_nsec / 1e9;
 }
 
-/* The same, and if nobody listens there yet, it is tried again until these seconds have passed. */
-static int connection_within(uint16_t port, double seconds)
+/* A connection, and if nobody listens there yet, it is tried again until its seconds have passed. */
+static int connection_within(const listener *where)
 {
     const struct timespec pause = {.tv_nsec = 50000000};
-    double deadline = seconds_now() + seconds;
+    double deadline = seconds_now() + where->seconds;
+    bool is_socket = where->port[0] == '\0';
     for (;;) {
-        int connection = connection_to(port);
-        if (connection >= 0 || (errno != ECONNREFUSED && errno != EINTR) || seconds_now() >= deadline)
+        int connection = is_socket ? connection_to_socket(where->host) : connection_to_port(where);
+        bool comes_later = errno == ECONNREFUSED || errno == EINTR || (is_socket && errno == ENOENT);
+        if (connection >= 0 || !comes_later || seconds_now() >= deadline)
             return connection;
         nanosleep(&pause, NULL);
     }
 }
 
-monitor_status monitor_to_port(const char *process, uint16_t port, double seconds, monitor_recorder **made)
+static monitor_status to_listener(const char *process, const listener *where, monitor_recorder **made)
 {
     *made = NULL;
     if (!is_name(process))
         return MONITOR_PROCESS_NAME;
-    int connection = connection_within(port, seconds);
+    int connection = connection_within(where);
     monitor_status status = connection < 0 ? MONITOR_SYSTEM : over_own_descriptor(process, connection, made);
-    if (status == MONITOR_RECORDED) {
-        (*made)->port = port;
-        (*made)->seconds = seconds;
-    }
+    if (status == MONITOR_RECORDED)
+        (*made)->where = *where;
     return status;
 }
 
-/* The digits of the port that the place is one of this machine, or NULL if it is none. */
-static const char *port_digits(const char *place)
+monitor_status monitor_to_port(const char *process, uint16_t port, double seconds, monitor_recorder **made)
 {
-    static const char *const hosts[] = {":", "localhost:", "127.0.0.1:"};
-    for (size_t i = 0; i < sizeof hosts / sizeof *hosts; i++) {
-        size_t size = strlen(hosts[i]);
-        const char *digits = place + size;
-        if (strncmp(place, hosts[i], size) == 0 && digits[0] != '\0' && strlen(digits) <= 5 &&
-            strspn(digits, "0123456789") == strlen(digits))
-            return digits;
+    listener where = {.host = "127.0.0.1", .seconds = seconds};
+    snprintf(where.port, sizeof where.port, "%u", (unsigned)port);
+    return to_listener(process, &where, made);
+}
+
+/* Whether the text has only these signs. */
+static bool has_only(const char *text, size_t size, const char *signs)
+{
+    for (size_t i = 0; i < size; i++)
+        if (text[i] == '\0' || strchr(signs, text[i]) == NULL)
+            return false;
+    return true;
+}
+
+#define DIGITS "0123456789"
+#define HEX DIGITS "abcdefABCDEF"
+#define LETTERS "abcdefghijklmnopqrstuvwxyzABCDEFGHIJKLMNOPQRSTUVWXYZ"
+
+/* Puts the host of a port into `where`: this machine, a name or an address. One of IPv6 stands in brackets. */
+static bool put_host(const char *text, size_t size, listener *where)
+{
+    static const char name_signs[] = LETTERS DIGITS ".-_", address_signs[] = HEX ":.";
+    bool is_own = size == 0 || (size == 9 && strncmp(text, "localhost", size) == 0);
+    if (size >= 2 && text[0] == '[' && text[size - 1] == ']') {
+        text++;
+        size -= 2;
+        const char *zone = memchr(text, '%', size);
+        size_t address = zone == NULL ? size : (size_t)(zone - text);
+        size_t rest = size - address;
+        if (address == 0 || !has_only(text, address, address_signs) || rest == 1 ||
+            (rest > 1 && !has_only(zone + 1, rest - 1, name_signs)))
+            return false;
+    } else if (!has_only(text, size, name_signs)) {
+        return false;
     }
-    return NULL;
+    if (size >= sizeof where->host)
+        return false;
+    snprintf(where->host, sizeof where->host, "%.*s", (int)size, is_own ? "" : text);
+    if (is_own)
+        strcpy(where->host, "127.0.0.1");
+    return true;
+}
+
+/* Puts the port or the socket that MONITOR_TO names into `where`, with no host for a folder. */
+static monitor_status find_place(const char *place, listener *where)
+{
+    static const char socket_begin[] = "unix:";
+    size_t begin = sizeof socket_begin - 1;
+    where->host[0] = where->port[0] = '\0';
+    if (place == NULL || place[0] == '\0')
+        return MONITOR_WHERE;
+    if (strncmp(place, socket_begin, begin) == 0) {
+        const char *path = place + begin;
+        if (path[0] != '/' || strlen(path) >= sizeof((struct sockaddr_un *)0)->sun_path)
+            return MONITOR_WHERE;
+        strcpy(where->host, path);
+        return MONITOR_RECORDED;
+    }
+    const char *colon = strrchr(place, ':');
+    if (colon == NULL || strpbrk(place, "/\\") != NULL)
+        return MONITOR_RECORDED;
+    size_t digits = strlen(colon + 1);
+    if (digits < 1 || digits > 5 || !has_only(colon + 1, digits, DIGITS))
+        return MONITOR_WHERE;
+    long port = strtol(colon + 1, NULL, 10);
+    if (port < 1 || port > 65534 || !put_host(place, (size_t)(colon - place), where))
+        return MONITOR_WHERE;
+    snprintf(where->port, sizeof where->port, "%ld", port);
+    return MONITOR_RECORDED;
 }
 
 /* The options, and notes if the environment says so; -1 if it says what it can't. */
@@ -629,25 +903,26 @@ static int with_environment(int options)
 
 monitor_status monitor_from_environment(const char *process, monitor_recorder **made)
 {
-    return monitor_from_environment_with(process, 0, made);
+    return monitor_from_environment_with_at(NULL, process, 0, made);
 }
 
-monitor_status monitor_from_environment_with(const char *process, int options, monitor_recorder **made)
+monitor_status monitor_from_environment_with_at(const monitor_note *note, const char *process, int options,
+                                                monitor_recorder **made)
 {
+    listener where = {.seconds = 10};
+    const char *place = getenv("MONITOR_TO");
     *made = NULL;
     if (!is_name(process))
         return MONITOR_PROCESS_NAME;
-    const char *place = getenv("MONITOR_TO");
-    if (place == NULL || place[0] == '\0')
-        return MONITOR_WHERE;
-    const char *digits = port_digits(place);
+    monitor_status found = find_place(place, &where);
+    if (found != MONITOR_RECORDED)
+        return found;
+    bool is_folder = where.host[0] == '\0';
     options = with_environment(options);
-    if (options < 0 || (digits != NULL && (options & MONITOR_NOTES) != 0))
+    if (options < 0 || (!is_folder && (options & MONITOR_NOTES) != 0))
         return MONITOR_NO_NOTES;
-    if (digits != NULL) {
-        long port = strtol(digits, NULL, 10);
-        return port < 1 || port > 65534 ? MONITOR_WHERE : monitor_to_port(process, (uint16_t)port, 10, made);
-    }
+    if (!is_folder)
+        return (options & MONITOR_AGAIN) != 0 ? MONITOR_NOT_AGAIN : to_listener(process, &where, made);
     if (mkdir(place, 0777) != 0 && errno != EEXIST)
         return MONITOR_SYSTEM;
     size_t room = strlen(place) + strlen(process) + sizeof "/.stream";
@@ -655,7 +930,7 @@ monitor_status monitor_from_environment_with(const char *process, int options, m
     if (path == NULL)
         return MONITOR_SYSTEM;
     snprintf(path, room, "%s/%s.stream", place, process);
-    monitor_status status = monitor_to_file_with(process, path, options, made);
+    monitor_status status = monitor_to_file_with_at(note, process, path, options, made);
     int error = errno;
     free(path);
     errno = error;
@@ -791,7 +1066,7 @@ static monitor_status check_strand(const monitor_recorder *root, const char *nam
             return MONITOR_NAME_TWICE;
     if (root->strand_count == MONITOR_PROCESS_LIMIT - 1)
         return MONITOR_PROCESSES;
-    return root->folder == NULL && root->port == 0 ? MONITOR_NO_PLACE : MONITOR_RECORDED;
+    return root->folder == NULL && root->where.host[0] == '\0' ? MONITOR_NO_PLACE : MONITOR_RECORDED;
 }
 
 /* Whether the path is that of the process's own file, which isn't replaced. */
@@ -806,7 +1081,7 @@ static bool is_own_file(const monitor_recorder *root, const char *path)
 static int descriptor_for(const monitor_recorder *root, const char *name, int *notes)
 {
     if (root->folder == NULL)
-        return connection_within(root->port, root->seconds);
+        return connection_within(&root->where);
     size_t room = strlen(root->folder) + strlen(name) + sizeof ending;
     char *path = malloc(room);
     if (path == NULL)
@@ -1012,7 +1287,13 @@ const char *monitor_text(monitor_status status)
     case MONITOR_PROCESSES: return "a session has at most 16 processes, and a process and its strands are as many";
     case MONITOR_NO_PLACE: return "no place for the stream of a strand: record to a file or a port by its name";
     case MONITOR_NOT_ENDED: return "not a strand that has ended: wait for it, and then join it";
-    case MONITOR_WHERE: return "MONITOR_TO names no place: it names a folder, or a port from 1 to 65534 as :7411";
+    case MONITOR_WHERE:
+        return "MONITOR_TO names no place: it names a folder, which has a slash if it has a colon, a port as :7411, "
+               "host:7411 or [::1]:7411, from 1 to 65534, or a socket as unix:/run/a.sock, of at most 107 bytes";
+    case MONITOR_RUNNING:
+        return "an earlier incarnation still runs: what is started beside it is no later one, but a process of its own";
+    case MONITOR_NOT_AGAIN:
+        return "no earlier incarnation can be told: it has a file in a folder, which isn't replaced";
     case MONITOR_NO_NOTES:
         return "no place for notes, which go beside a file whose name ends with .stream and to no port; MONITOR_NOTES is "
                "1 for notes, and else 0 or not set";
@@ -1085,6 +1366,16 @@ monitor_status monitor_mutex_unlock_at(const monitor_note *note, monitor_mutex *
 
 /* The calls by their names alone, whose events have no place. The header's macros of these names begin with a parenthesis
  * right after them. */
+
+monitor_status(monitor_to_file_with)(const char *process, const char *path, int options, monitor_recorder **made)
+{
+    return monitor_to_file_with_at(NULL, process, path, options, made);
+}
+
+monitor_status(monitor_from_environment_with)(const char *process, int options, monitor_recorder **made)
+{
+    return monitor_from_environment_with_at(NULL, process, options, made);
+}
 
 monitor_status(monitor_event)(monitor_recorder *recorder, const monitor_setting *settings, size_t count)
 {

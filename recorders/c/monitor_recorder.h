@@ -87,8 +87,10 @@ typedef enum {
     MONITOR_PROCESSES,     /* a process and its strands are at most 16, since a session has no more processes */
     MONITOR_NO_PLACE,      /* the recorder was made for a descriptor: there is no place for the stream of a strand */
     MONITOR_NOT_ENDED,     /* what is to be joined is no strand that has ended */
-    MONITOR_WHERE,         /* MONITOR_TO isn't set, or is a port that there isn't */
-    MONITOR_NO_NOTES       /* there is no place for notes, as at a port, or MONITOR_NOTES is neither 1 nor 0 */
+    MONITOR_WHERE,         /* MONITOR_TO isn't set, or names no folder, port or socket that there can be */
+    MONITOR_NO_NOTES,      /* there is no place for notes, as at a port, or MONITOR_NOTES is neither 1 nor 0 */
+    MONITOR_RUNNING,       /* an earlier incarnation of the process still runs */
+    MONITOR_NOT_AGAIN      /* no earlier incarnation can be told, as of a connection or of a file that is replaced */
 } monitor_status;
 
 /* How a file is recorded to: these, joined by |, or 0. */
@@ -97,7 +99,12 @@ enum {
      * .stream then. docs/RECORDING.md has the format. */
     MONITOR_NOTES = 1,
     /* A file that is there already is lost, with its notes. */
-    MONITOR_REPLACE = 2
+    MONITOR_REPLACE = 2,
+    /* A file that is there is what the process recorded before it was killed and started again. Then a further
+     * incarnation is recorded, as a process of its own and to a file beside: of left and left.stream the second one is
+     * left_2 in left_2.stream. Its first event receives the message left-ended, by which it comes after all that the
+     * one before did; monitor_mend adds the send. It is MONITOR_RUNNING while the one before still runs. */
+    MONITOR_AGAIN = 4
 };
 
 /* Records to a new file. One that is there already is MONITOR_SYSTEM with EEXIST. */
@@ -111,9 +118,11 @@ monitor_status monitor_to_file_with(const char *process, const char *path, int o
 monitor_status monitor_to_port(const char *process, uint16_t port, double seconds, monitor_recorder **made);
 
 /* Records to where MONITOR_TO in the environment says, so that no code changes between a test and a live session: to a
- * new file NAME.stream in a folder of this name, which is made if there is none; or to `monitor serve` on a port of
- * this machine, of :7411 or localhost:7411, for which ten seconds are waited. With MONITOR_NOTES=1 in the environment
- * each event gets a note beside the file; a port has no place for notes, so the two together are MONITOR_NO_NOTES. */
+ * new file NAME.stream in a folder of this name, which is made if there is none; or to `monitor serve`, on a port of
+ * this machine, of :7411 or localhost:7411, on one of another machine, of host:7411 or [fe80::1]:7411, or by a Unix
+ * socket, of unix:/run/monitor.sock, for which ten seconds are waited. With MONITOR_NOTES=1 in the environment each
+ * event gets a note beside the file. A connection has no place for notes, and keeps no earlier incarnation, so with one
+ * notes are MONITOR_NO_NOTES, and MONITOR_AGAIN is MONITOR_NOT_AGAIN. What has a colon and no slash is no folder. */
 monitor_status monitor_from_environment(const char *process, monitor_recorder **made);
 
 /* The same, with options. */
@@ -202,6 +211,10 @@ typedef struct {
 } monitor_note;
 
 /* The calls above, with what the note of their event says. With NULL the note has no place, as by the plain calls. */
+monitor_status monitor_to_file_with_at(const monitor_note *note, const char *process, const char *path, int options,
+                                       monitor_recorder **made);
+monitor_status monitor_from_environment_with_at(const monitor_note *note, const char *process, int options,
+                                                monitor_recorder **made);
 monitor_status monitor_event_at(const monitor_note *note, monitor_recorder *recorder, const monitor_setting *settings,
                                 size_t count);
 monitor_status monitor_send_at(const monitor_note *note, monitor_recorder *recorder, char id[MONITOR_ID_PLACE],
@@ -223,6 +236,8 @@ monitor_status monitor_mutex_unlock_at(const monitor_note *note, monitor_mutex *
 /* In C a call is one with the line in which it stands. C++ has monitor_recorder.hpp for that. */
 #ifndef __cplusplus
 #define MONITOR_NOTE(text) (&(const monitor_note){__FILE__, __LINE__, (text)})
+#define monitor_to_file_with(...) monitor_to_file_with_at(MONITOR_NOTE(NULL), __VA_ARGS__)
+#define monitor_from_environment_with(...) monitor_from_environment_with_at(MONITOR_NOTE(NULL), __VA_ARGS__)
 #define monitor_event(...) monitor_event_at(MONITOR_NOTE(NULL), __VA_ARGS__)
 #define monitor_send(...) monitor_send_at(MONITOR_NOTE(NULL), __VA_ARGS__)
 #define monitor_send_as(...) monitor_send_as_at(MONITOR_NOTE(NULL), __VA_ARGS__)

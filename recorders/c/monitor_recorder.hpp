@@ -90,13 +90,14 @@ private:
  * closed or destroyed. */
 class Recorder {
 public:
-    /* Records to a new file. Options are MONITOR_NOTES and MONITOR_REPLACE. */
-    static Recorder to_file(const std::string &process, const std::string &path, int options = 0)
+    /* Records to a new file. Options are MONITOR_NOTES, MONITOR_REPLACE and MONITOR_AGAIN; with the last one the note
+     * is that of the receipt with which a later incarnation begins. */
+    static Recorder to_file(const std::string &process, const std::string &path, int options = 0, const Note &note = {})
     {
         if (path.find('\0') != std::string::npos)
             throw std::system_error(EINVAL, std::generic_category(), "a path with a NUL");
         return made(process, [&](monitor_recorder **to) {
-            return monitor_to_file_with(process.c_str(), path.c_str(), options, to);
+            return monitor_to_file_with_at(note.said(), process.c_str(), path.c_str(), options, to);
         });
     }
 
@@ -107,11 +108,11 @@ public:
                     [&](monitor_recorder **to) { return monitor_to_port(process.c_str(), port, seconds, to); });
     }
 
-    /* Records to the folder or port that MONITOR_TO names. */
-    static Recorder from_environment(const std::string &process, int options = 0)
+    /* Records to the folder, port or socket that MONITOR_TO names. */
+    static Recorder from_environment(const std::string &process, int options = 0, const Note &note = {})
     {
         return made(process, [&](monitor_recorder **to) {
-            return monitor_from_environment_with(process.c_str(), options, to);
+            return monitor_from_environment_with_at(note.said(), process.c_str(), options, to);
         });
     }
 

@@ -106,7 +106,9 @@ static void answer_status(monitor_status status, const char *id)
         [MONITOR_FORK] = "refused fork", [MONITOR_BROKEN] = "refused broken", [MONITOR_SYSTEM] = "failed",
         [MONITOR_ENDED] = "refused ended", [MONITOR_NAME_TWICE] = "refused name-twice",
         [MONITOR_PROCESSES] = "refused processes", [MONITOR_NO_PLACE] = "refused no-place",
-        [MONITOR_NOT_ENDED] = "refused not-ended", [MONITOR_NO_NOTES] = "refused notes"};
+        [MONITOR_NOT_ENDED] = "refused not-ended", [MONITOR_NO_NOTES] = "refused notes",
+        [MONITOR_WHERE] = "refused place", [MONITOR_RUNNING] = "refused running",
+        [MONITOR_NOT_AGAIN] = "refused again"};
     answer(texts[status], status == MONITOR_RECORDED ? id : "");
 }
 
@@ -208,6 +210,14 @@ static bool open_or_close(char **words)
         status = monitor_to_file_with(text_of(words[1]), text_of(words[2]), MONITOR_NOTES, &recorder);
     } else if (strcmp(words[0], "replaced") == 0) {
         status = monitor_to_file_with(text_of(words[1]), text_of(words[2]), MONITOR_REPLACE, &recorder);
+    } else if (strcmp(words[0], "again") == 0) {
+        status = monitor_to_file_with(text_of(words[1]), text_of(words[2]), MONITOR_AGAIN, &recorder);
+    } else if (strcmp(words[0], "noted-again") == 0) {
+        status = monitor_to_file_with(text_of(words[1]), text_of(words[2]), MONITOR_NOTES | MONITOR_AGAIN, &recorder);
+    } else if (strcmp(words[0], "place") == 0 || strcmp(words[0], "again-at") == 0) {
+        int options = strcmp(words[0], "again-at") == 0 ? MONITOR_AGAIN : 0;
+        setenv("MONITOR_TO", text_of(words[2]), 1);
+        status = monitor_from_environment_with(text_of(words[1]), options, &recorder);
     } else if (strcmp(words[0], "port") == 0) {
         status = monitor_to_port(text_of(words[1]), (uint16_t)atoi(words[2]), atof(words[3]), &recorder);
     } else if (strcmp(words[0], "close") == 0) {

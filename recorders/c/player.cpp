@@ -47,7 +47,9 @@ const char *word_of(monitor_status status)
         {MONITOR_FORK, "fork"},                 {MONITOR_BROKEN, "broken"},
         {MONITOR_ENDED, "ended"},               {MONITOR_NAME_TWICE, "name-twice"},
         {MONITOR_PROCESSES, "processes"},       {MONITOR_NO_PLACE, "no-place"},
-        {MONITOR_NOT_ENDED, "not-ended"},       {MONITOR_NO_NOTES, "notes"}};
+        {MONITOR_NOT_ENDED, "not-ended"},       {MONITOR_NO_NOTES, "notes"},
+        {MONITOR_WHERE, "place"},               {MONITOR_RUNNING, "running"},
+        {MONITOR_NOT_AGAIN, "again"}};
     return words.at(status);
 }
 
@@ -183,6 +185,12 @@ bool contend(Recorder &recorder, int count, int turns, bool is_locked)
     });
 }
 
+Recorder from_place(const std::string &name, const std::string &place, int options)
+{
+    setenv("MONITOR_TO", place.c_str(), 1);
+    return Recorder::from_environment(name, options);
+}
+
 /* Makes a recording and answers, if the call is one that does so. */
 bool open(const Words &words)
 {
@@ -192,6 +200,12 @@ bool open(const Words &words)
         process = Recorder::to_file(text_of(words[1]), text_of(words[2]), MONITOR_NOTES);
     else if (words[0] == "replaced")
         process = Recorder::to_file(text_of(words[1]), text_of(words[2]), MONITOR_REPLACE);
+    else if (words[0] == "again")
+        process = Recorder::to_file(text_of(words[1]), text_of(words[2]), MONITOR_AGAIN);
+    else if (words[0] == "noted-again")
+        process = Recorder::to_file(text_of(words[1]), text_of(words[2]), MONITOR_NOTES | MONITOR_AGAIN);
+    else if (words[0] == "place" || words[0] == "again-at")
+        process = from_place(text_of(words[1]), text_of(words[2]), words[0] == "place" ? 0 : MONITOR_AGAIN);
     else if (words[0] == "port")
         process = Recorder::to_port(text_of(words[1]), static_cast<std::uint16_t>(std::stoi(words[2])),
                                     std::stod(words[3]));

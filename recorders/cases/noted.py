@@ -16,7 +16,7 @@ FIELDS = ["process", "event", "text", "place", "clock"]
 BEGIN = time.time()
 # Other calls than these stand in a line of the player as they do in the cases. A strand ends by what closes it too.
 SPELLED = {"end": ("end", "close"), "unlock": ("unlock", "release"), "lock": ("lock", "acquire"),
-           "put": ("put", "carry"), "take": ("take", "get")}
+           "put": ("put", "carry"), "take": ("take", "get"), "noted-again": ("tofile",)}
 
 
 def call_in(words):

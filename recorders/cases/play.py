@@ -24,7 +24,7 @@ MOST_SECONDS = 600
 # So many calls of a row are made before their bytes are looked at.
 AT_ONCE = 100
 # A call that begins so is given the path of a file.
-MAKES_FILE = ("file ", "noted ", "replaced ")
+MAKES_FILE = ("file ", "noted ", "replaced ", "again ", "noted-again ")
 
 
 def play(case, players, folder):
@@ -34,6 +34,8 @@ def play(case, players, folder):
         stream = streams.setdefault(call.process, Stream(folder, call.process))
         player, words = owner_of(call.process, begun)
         note_strand(call, folder, streams, begun)
+        for written, _ in call.lines:  # also that of a later incarnation
+            streams.setdefault(written, Stream(folder, written))
         try:
             for first in range(1, call.times + 1, AT_ONCE):
                 numbers = range(first, min(first + AT_ONCE, call.times + 1))
@@ -46,7 +48,7 @@ def play(case, players, folder):
             raise Wrong(f"{call.where}: {wrong}") from None
         if missing and call.words.startswith(MAKES_FILE):
             break
-    for process in set(streams) - set(begun):
+    for process in {call.process for call in case.calls} - set(begun):
         players.of(process).ask("close")
     paths = [stream.path for stream in streams.values() if stream.size]
     if judged.has_program() and paths:

@@ -4,6 +4,7 @@ tries. Those that leave out a call give how many."""
 import contextlib
 import json
 import os
+import random
 import resource
 import select
 import signal
@@ -12,6 +13,7 @@ import subprocess
 import sys
 import threading
 import time
+from urllib.parse import quote
 
 import judged
 import noted
@@ -24,6 +26,7 @@ THREADS, TURNS = 6, 50
 STRANDS = 15
 CONTENDING, ENTRIES = 3, 40
 SEEN = 300
+KILLS = 6
 BURST = 4000
 FILE_LIMIT = 1000
 JOIN, INSIDE, END = b'{"process":"left"}\n', b'{"set":{"inside":1}}\n', b'{"end":true}\n'
@@ -183,16 +186,22 @@ def killed_with_notes(players, folder):
             return 1
         sent = killed_flood(player)
     see_flood(sent, stream.added())
-    mended = os.path.join(folder, "mended")
-    done = subprocess.run([sys.executable, os.path.join(noted.RECORDERS, "python", "monitor_mend.py"), "--out", mended,
-                           folder], stdout=subprocess.PIPE, stderr=subprocess.PIPE)
-    see(done.returncode == 0, f"it isn't mended: {done.stderr.decode()}")
+    mended = mended_from(folder)
     stream = Stream(mended, "left")
     text = stream.added()
     see(text.startswith(JOIN) and text.endswith(END), f"the mended stream isn't whole: {text[-200:]}")
     noted.see_all(stream.notes.added(), text.count(b"\n") - 2)
     see_plain(folder, stream.path)
     return 0
+
+
+def mended_from(folder, *options):
+    """The folder with the streams of this one as monitor_mend mends them."""
+    mended = os.path.join(folder, "".join(["mended", *options]))
+    done = subprocess.run([sys.executable, os.path.join(noted.RECORDERS, "python", "monitor_mend.py"), *options,
+                           "--out", mended, folder], stdout=subprocess.PIPE, stderr=subprocess.PIPE)
+    see(done.returncode == 0, f"it isn't mended: {done.stderr.decode()}")
+    return mended
 
 
 def killed_flood(player):
@@ -216,15 +225,104 @@ def see_flood(sent, text):
     see(not lost, f"of {len(sent)} sends that were recorded these are lost: {sorted(lost)[:20]}")
 
 
-class Listener:
-    """A port of this machine to which a player records, as if `serve` were there."""
+def killed_and_started_again(players, folder):
+    """a process that is killed at random moments and started again, with one that is never killed"""
+    generator = random.Random(9)
+    right = players.of("right")
+    right.ask(f"file right {Stream(folder, 'right').word()}")
+    sent = 0
+    for number in range(KILLS):
+        with Player(players.words) as left:
+            left.tell(f"again left {Stream(folder, 'left').word()}")
+            # Every other time it is killed while it starts, for all that anybody knows.
+            has_begun = number % 2 == 0
+            if has_begun and not left.has_answered("again", "recorded"):
+                return 1
+            sent += talk_until_killed(left, right, has_begun, generator)
+    right.ask("end")
+    names = see_incarnations(folder)
+    see(len(names) >= KILLS // 2 and sent > 0, f"there are {len(names)} incarnations, which have sent {sent} messages")
+    see_mended(mended_from(folder), [*names, "right"])
+    see_mended(mended_from(folder, "--one-process"), ["left", "right"])
+    return 0
 
-    def __init__(self, listens=True, room=None):
-        self.socket = socket.socket()
+
+def talk_until_killed(left, right, has_begun, generator):
+    """Tells `left` to send and to receive, kills it a while later, if it has begun once it has sent something, and has
+    `right` receive what it has sent, which is how much."""
+    answers = []
+    for turn in range(SEEN):
+        # `right` sends more than `left` receives, and `left` more than it is heard of.
+        right.tell("send")
+        message = right.answer().split()[1]
+        left.tell(f"send x={turn}\nevent x={-turn}\nreceive {message}")
+        if turn == 0 and has_begun:
+            answers.append(left.answer())
+        elif turn == 0:
+            time.sleep(generator.choice([0, 0.002, 0.02]) * generator.random())
+        elif generator.random() < 0.02:
+            break
+    answers += left.kill()
+    messages = [answer.split()[1] for answer in answers if answer.startswith("recorded left")]
+    see(len(set(messages)) == len(messages), f"an incarnation has the ids {messages}")
+    for message in messages:
+        right.ask(f"receive {message}")
+    return len(messages)
+
+
+def see_incarnations(folder):
+    """Sees that each incarnation of left comes after the one before, and gives the names of all."""
+    names = [name[:-len(".stream")] for name in os.listdir(folder) if name.startswith("left") and
+             name.endswith(".stream")]
+    names.sort(key=lambda name: int(name.partition("_")[2] or 1))
+    see(names == ["left", *(f"left_{number}" for number in range(2, len(names) + 1))], f"there are the streams {names}")
+    for before, name in zip([None, *names], names):
+        text = Stream(folder, name).added()
+        begin = f'{{"process":"{name}"}}\n' + (f'{{"recv":"{before}-ended"}}\n' if before else "")
+        see(text.startswith(begin.encode()), f"the stream of {name} begins {text[:100]}")
+    return names
+
+
+def see_mended(folder, names):
+    streams = sorted(name for name in os.listdir(folder) if name.endswith(".stream"))
+    see(streams == sorted(f"{name}.stream" for name in names), f"of {names} there are {streams}")
+    if judged.has_program():
+        plain = judged.Plain([os.path.join(folder, name) for name in streams])
+        see(not plain.from_outside and plain.unended is None, f"nobody sends {plain.from_outside}")
+        plain.see(folder)
+
+
+def started_beside_itself(players, folder):
+    """a process that is started again while it still runs"""
+    stream = Stream(folder, "left")
+    with Player(players.words) as first, Player(players.words) as second:
+        first.tell(f"again left {stream.word()}")
+        if not first.has_answered("again", "recorded"):
+            return 1
+        second.ask(f"again left {stream.word()}", "refused running")
+        first.ask("event x=1")
+        second.ask(f"again left {stream.word()}", "refused running")
+        see_text(stream.added(), JOIN + b'{"set":{"x":1}}\n')
+        see(os.listdir(folder) == ["left.stream"], f"what is refused leaves {os.listdir(folder)}")
+        first.kill()
+        second.ask(f"again left {stream.word()}")
+        second.ask("end")
+        second.end()
+    see_text(Stream(folder, "left_2").added(), b'{"process":"left_2"}\n{"recv":"left-ended"}\n' + END)
+    see(sorted(os.listdir(folder)) == ["left.stream", "left_2.stream"], f"there are {os.listdir(folder)}")
+    return 0
+
+
+class Listener:
+    """Where a player records to, as if `serve` were there: a port of this machine, or a socket with a path."""
+
+    def __init__(self, listens=True, room=None, host="127.0.0.1", path=None):
+        family = socket.AF_UNIX if path else socket.AF_INET6 if ":" in host else socket.AF_INET
+        self.socket = socket.socket(family)
         if room:
             self.socket.setsockopt(socket.SOL_SOCKET, socket.SO_RCVBUF, room)
-        self.socket.bind(("127.0.0.1", 0))
-        self.port = self.socket.getsockname()[1]
+        self.socket.bind(path or (host, 0))
+        self.port = None if path else self.socket.getsockname()[1]
         if listens:
             self.socket.listen()
 
@@ -276,6 +374,69 @@ def without_an_end_over_a_connection(players, _folder):
         player.ask("event")
         player.ask("close")
         see_text(lines.read(), JOIN + b"{}\n")
+
+
+def to_a_place(players, folder):
+    """what MONITOR_TO names: a folder, a socket, a port of this machine and of another one"""
+    player = players.of("left")
+    with_colon = os.path.join(folder, "a:b")
+    player.ask(f"place left {quote(with_colon)}")
+    player.ask("end")
+    see_text(Stream(with_colon, "left").added(), JOIN + END)
+    path = os.path.join(folder, "monitor.sock")
+    with Listener(path=path) as listener:
+        see_connections(player, listener, f"unix:{path}")
+    hosts = ["127.0.0.1", "127.0.0.2", *(["::1"] if has_ipv6() else [])]
+    for host, names in zip(hosts, (["", "localhost", "127.0.0.1"], ["127.0.0.2"], ["[::1]"])):
+        with Listener(host=host) as listener:
+            for name in names:
+                see_connections(player, listener, f"{name}:{listener.port}")
+
+
+def see_connections(player, listener, place):
+    """Sees that a process and a strand of it record to this place, by a connection each."""
+    player.ask(f"place left {quote(place)}")
+    with listener.socket.accept()[0] as connection, connection.makefile("rb") as lines:
+        see_text(lines.readline(), JOIN)
+        player.ask("strand worker")
+        with listener.socket.accept()[0] as second, second.makefile("rb") as others:
+            player.ask("event inside=1")
+            see_text(lines.readline() + lines.readline(), b'{"send":"left-1"}\n' + INSIDE)
+            player.ask("end")
+            see_text(lines.read(), END)
+            see_text(others.read(), b'{"process":"worker"}\n{"recv":"left-1"}\n' + END)
+
+
+def has_ipv6():
+    try:
+        with socket.socket(socket.AF_INET6) as bound:
+            bound.bind(("::1", 0))
+            return True
+    except OSError:
+        return False
+
+
+def to_a_socket_that_comes_later(players, folder):
+    """a socket that is there later, and one whose other end goes"""
+    player, path = players.of("left"), os.path.join(folder, "monitor.sock")
+    player.tell(f"place left unix:{quote(path)}")
+    time.sleep(0.2)
+    with Listener(listens=False, path=path) as listener:
+        time.sleep(0.2)
+        listener.socket.listen()
+        see_text(player.answer(), "recorded")
+        with listener.socket.accept()[0] as connection, connection.makefile("rb") as lines:
+            see_text(lines.readline(), JOIN)
+            player.ask("event inside=1")
+            see_text(lines.readline(), INSIDE)
+        player.tell("event")
+        answers = 0
+        while player.answer() != "failed":
+            answers += 1
+            see(answers < 5000, "a line to nobody is still recorded")
+            player.tell("event")
+    player.ask("event", "refused broken")
+    player.ask("end", "refused broken")
 
 
 def killed_over_a_connection(players, _folder):
@@ -511,6 +672,7 @@ def served_with_a_strand(players, folder):
 
 
 TRIALS = [with_threads, with_strands, with_noted_threads, for_a_lock, killed_at_rest, killed_at_work,
-          killed_with_notes, lines_as_they_are_recorded, strand_over_a_connection, without_an_end_over_a_connection,
+          killed_with_notes, killed_and_started_again, started_beside_itself, lines_as_they_are_recorded,
+          strand_over_a_connection, without_an_end_over_a_connection, to_a_place, to_a_socket_that_comes_later,
           killed_over_a_connection, gone, nobody_listens, listens_later, reads_late, at_the_limit_of_a_files_size,
           notes_at_the_limit_of_a_files_size, interrupted_by_signals, served, served_with_a_strand]

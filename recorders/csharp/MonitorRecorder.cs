@@ -39,8 +39,12 @@ namespace MonitorRecorder
         NoPlace,
         /// <summary>What is to be joined is no strand that has ended.</summary>
         NotEnded,
-        /// <summary>MONITOR_TO isn't set, or is a port that there isn't.</summary>
-        Place
+        /// <summary>MONITOR_TO isn't set, or names no folder, port or socket that there can be.</summary>
+        Place,
+        /// <summary>An earlier incarnation of the process still runs.</summary>
+        Running,
+        /// <summary>No earlier incarnation can be told, as of a connection.</summary>
+        Again
     }
 
     /// <summary>A call was refused and wrote nothing: its message says why.</summary>
@@ -112,9 +116,15 @@ namespace MonitorRecorder
         public const int IdByteLimit = 64;
 
         private const int PortLimit = 65534;
+        private const int SocketByteLimit = 107;
+        private const string SocketPrefix = "unix:";
+        private const string Here = "127.0.0.1";
         private const string Short = "\"\\\b\f\n\r\t";
         private static readonly Regex Name = new Regex(@"\A[A-Za-z_][A-Za-z0-9_]*\z");
-        private static readonly Regex Port = new Regex(@"\A(?:localhost|127\.0\.0\.1)?:([0-9]{1,5})\z");
+        /// <summary>A port: of this machine, or of another one by its name or address. One of IPv6 stands in brackets.
+        /// </summary>
+        private static readonly Regex Port = new Regex(
+            @"\A(?:\[([0-9A-Fa-f:.]+(?:%[A-Za-z0-9._-]+)?)\]|([A-Za-z0-9._-]*)):([0-9]{1,5})\z");
         private static readonly HashSet<string> Reserved = new HashSet<string> { "and", "or", "not", "true", "false" };
         private static readonly TimeSpan Patience = TimeSpan.FromSeconds(10);
         private static readonly TimeSpan Pause = TimeSpan.FromMilliseconds(50);
@@ -148,12 +158,118 @@ namespace MonitorRecorder
             Write("{\"process\":" + Quoted(process) + "}");
         }
 
-        /// <summary>Records to a new file. One that is there already is an <see cref="IOException"/>.</summary>
-        public static Recorder ToFile(string process, string path)
+        /// <summary>Records to a new file. One that is there already is an <see cref="IOException"/>. With
+        /// <paramref name="again"/> it is what the process recorded before it was killed and started again. Then a
+        /// further incarnation is recorded, as a process of its own and to a file beside: of <c>left</c> and
+        /// <c>left.stream</c> the second one is <c>left_2</c> in <c>left_2.stream</c>. Its first event receives the
+        /// message <c>left-ended</c>, by which it comes after all that the one before did; monitor_mend adds the send.
+        /// It is refused while the one before still runs.</summary>
+        public static Recorder ToFile(string process, string path, bool again = false)
         {
             CheckedProcess(process);
-            string folder = Path.GetDirectoryName(Path.GetFullPath(path));
-            return Over(process, NewFile(path), null, name => NewFile(Path.Combine(folder, name + ".stream")));
+            string first = Path.GetFullPath(path);
+            string folder = Path.GetDirectoryName(first);
+            Func<string, Stream> place = name => NewFile(Path.Combine(folder, name + ".stream"));
+            return again ? Incarnation(process, first, place) : Over(process, NewFile(path), null, place);
+        }
+
+        /// <summary>Records to the first file of the process that isn't there yet.</summary>
+        private static Recorder Incarnation(string process, string first, Func<string, Stream> place)
+        {
+            int number = 1;
+            while (IsThere(PathOf(first, number)))
+            {
+                number++;
+            }
+            string before = IncarnationOf(process, number - 1);
+            if (number > 1)
+            {
+                RefuseRunning(before, PathOf(first, number - 1));
+            }
+            string name = CheckedProcess(IncarnationOf(process, number));
+            // It gets its name once the receipt stands in it, so that it has that whenever the process is killed.
+            string part = NewPart(PathOf(first, number));
+            Recorder recorder = null;
+            try
+            {
+                recorder = Over(name, LockedFile(part), null, place);
+                if (number > 1)
+                {
+                    recorder.Receive(before + "-ended");
+                }
+                File.Move(part, PathOf(first, number));
+                return recorder;
+            }
+            catch
+            {
+                recorder?.CloseOut();
+                File.Delete(part);
+                throw;
+            }
+        }
+
+        private static bool IsThere(string path)
+        {
+            return File.Exists(path) || Directory.Exists(path);
+        }
+
+        private static string IncarnationOf(string process, int number)
+        {
+            return number <= 1 ? process : process + "_" + number.ToString(CultureInfo.InvariantCulture);
+        }
+
+        /// <summary>The file of this incarnation, if that of the first one is given.</summary>
+        private static string PathOf(string first, int number)
+        {
+            string name = IncarnationOf(Path.GetFileNameWithoutExtension(first), number);
+            return Path.Combine(Path.GetDirectoryName(first), name + Path.GetExtension(first));
+        }
+
+        /// <summary>Where a file stands until it gets its name. A process that was killed before may have had the
+        /// number of this one.</summary>
+        private static string NewPart(string path)
+        {
+            string begin = path + "." + System.Diagnostics.Process.GetCurrentProcess().Id;
+            string part = begin + ".part";
+            for (int number = 2; IsThere(part); number++)
+            {
+                part = begin + "-" + number + ".part";
+            }
+            return part;
+        }
+
+        /// <summary>A new file with a lock that this process has on it for as long as it runs, if its folder can have
+        /// locks.</summary>
+        private static Stream LockedFile(string path)
+        {
+            var file = (FileStream)NewFile(path);
+            try
+            {
+                file.Lock(0, long.MaxValue);
+            }
+            catch (IOException)
+            {
+                // without a lock it isn't seen that this process runs
+            }
+            return file;
+        }
+
+        /// <summary>Refuses what is started while the earlier incarnation with this file still runs, if a lock shows
+        /// that.</summary>
+        private static void RefuseRunning(string process, string path)
+        {
+            using (var file = new FileStream(path, FileMode.Open, FileAccess.ReadWrite, FileShare.ReadWrite, 1))
+            {
+                try
+                {
+                    file.Lock(0, long.MaxValue);
+                }
+                catch (IOException)
+                {
+                    throw Refused(Reason.Running, process + " still runs and records to " + path
+                        + ": what is started beside it is no later incarnation, but a process of its own");
+                }
+            }
         }
 
         /// <summary>Records to <c>monitor serve</c> on a port of this machine, 1 to 65,534, which may listen up to ten
@@ -167,35 +283,70 @@ namespace MonitorRecorder
         /// <summary>The same, with another time to wait for somebody who listens.</summary>
         public static Recorder ToPort(string process, int port, TimeSpan patience)
         {
+            return ToAddress(process, Here, port, patience);
+        }
+
+        /// <summary>Records to the port of a host or, without a port, to a socket with this path.</summary>
+        private static Recorder ToAddress(string process, string host, int port, TimeSpan patience)
+        {
             CheckedProcess(process);
-            return Over(process, ConnectionTo(port, patience), null, _ => ConnectionTo(port, patience));
+            return Over(process, ConnectionTo(host, port, patience), null, _ => ConnectionTo(host, port, patience));
         }
 
         /// <summary>Records to where MONITOR_TO in the environment says, so that no code changes between a test and a
         /// live session: to a new file NAME.stream in a folder of this name, which is made if there is none; or to
-        /// <c>monitor serve</c> on a port of this machine, of <c>:7411</c> or <c>localhost:7411</c>.</summary>
-        public static Recorder FromEnvironment(string process)
+        /// <c>monitor serve</c>, on a port of this machine, of <c>:7411</c> or <c>localhost:7411</c>, on one of another
+        /// machine, of <c>host:7411</c> or <c>[fe80::1]:7411</c>, or by a Unix socket, of
+        /// <c>unix:/run/monitor.sock</c>. What has a colon and no slash is no folder.</summary>
+        public static Recorder FromEnvironment(string process, bool again = false)
         {
-            return ToPlace(process, Environment.GetEnvironmentVariable("MONITOR_TO") ?? "");
+            return ToPlace(process, Environment.GetEnvironmentVariable("MONITOR_TO") ?? "", again);
         }
 
         /// <summary>The same, of a place that is given.</summary>
-        public static Recorder ToPlace(string process, string place)
+        public static Recorder ToPlace(string process, string place, bool again = false)
         {
             CheckedProcess(process);
+            bool isSocket = place.StartsWith(SocketPrefix, StringComparison.Ordinal);
+            bool hasColon = place.IndexOf(':') >= 0 && place.IndexOfAny(new[] { '/', '\\' }) < 0;
+            if (!isSocket && !hasColon && place.Length > 0)
+            {
+                Directory.CreateDirectory(place);
+                return ToFile(process, Path.Combine(place, process + ".stream"), again);
+            }
+            string host = isSocket ? CheckedSocket(place.Substring(SocketPrefix.Length)) : "";
+            int port = isSocket ? 0 : PortIn(place, out host);
+            if (again)
+            {
+                throw Refused(Reason.Again, "MONITOR_TO is the connection " + place
+                    + ", and only a folder has the recording of an earlier incarnation");
+            }
+            return ToAddress(process, host, port, Patience);
+        }
+
+        private static int PortIn(string place, out string host)
+        {
             Match match = Port.Match(place);
-            int port = match.Success ? int.Parse(match.Groups[1].Value, CultureInfo.InvariantCulture) : 1;
-            if (place.Length == 0 || port < 1 || port > PortLimit)
+            int port = match.Success ? int.Parse(match.Groups[3].Value, CultureInfo.InvariantCulture) : 0;
+            if (port < 1 || port > PortLimit)
             {
-                throw Refused(Reason.Place, "MONITOR_TO is \"" + place + "\", and names a folder, or a port from 1 to "
-                    + PortLimit + " as :7411");
+                throw Refused(Reason.Place, "MONITOR_TO is \"" + place + "\", and names a folder, which has a slash if "
+                    + "it has a colon, a port as :7411, host:7411 or [::1]:7411, from 1 to " + PortLimit
+                    + ", or a socket as unix:/run/a.sock");
             }
-            if (match.Success)
+            host = match.Groups[1].Value + match.Groups[2].Value;
+            host = host == "" || host == "localhost" ? Here : host;
+            return port;
+        }
+
+        private static string CheckedSocket(string path)
+        {
+            if (!path.StartsWith("/", StringComparison.Ordinal) || Utf8.GetByteCount(path) > SocketByteLimit)
             {
-                return ToPort(process, port);
+                throw Refused(Reason.Place, "MONITOR_TO is \"" + SocketPrefix + path + "\", and the path of a socket "
+                    + "begins with / and has at most " + SocketByteLimit + " bytes");
             }
-            Directory.CreateDirectory(place);
-            return ToFile(process, Path.Combine(place, process + ".stream"));
+            return path;
         }
 
         private static Recorder Over(string process, Stream output, Family family, Func<string, Stream> place)
@@ -670,40 +821,77 @@ namespace MonitorRecorder
             return new NotRecordedException(reason, message);
         }
 
-        /// <summary>A connection to a port of this machine, on which nobody may listen yet.</summary>
-        private static Stream ConnectionTo(int port, TimeSpan patience)
+        /// <summary>A connection to a port of a host or, without a port, to a socket with this path, where nobody may
+        /// listen yet.</summary>
+        private static Stream ConnectionTo(string host, int port, TimeSpan patience)
         {
             var begun = System.Diagnostics.Stopwatch.StartNew();
             while (true)
             {
-                Stream connection = ConnectionNow(port);
+                Stream connection = port == 0 ? SocketNow(host) : ConnectionNow(host, port);
                 if (connection != null)
                 {
                     return connection;
                 }
                 if (begun.Elapsed >= patience)
                 {
-                    throw new IOException("nobody listens on port " + port);
+                    throw new IOException("nobody listens at " + host + (port == 0 ? "" : ", port " + port));
                 }
                 Thread.Sleep(Pause);
             }
         }
 
         /// <summary>The connection, or null if nobody listens.</summary>
-        private static Stream ConnectionNow(int port)
+        private static Stream ConnectionNow(string host, int port)
         {
-            var socket = new Socket(AddressFamily.InterNetwork, SocketType.Stream, ProtocolType.Tcp);
             try
             {
-                socket.Connect(IPAddress.Loopback, port);
-                // A connection to a port that nobody has bound can come to be with itself.
-                if (!socket.LocalEndPoint.Equals(socket.RemoteEndPoint))
+                foreach (IPAddress address in Dns.GetHostAddresses(host))
                 {
-                    socket.NoDelay = true;
-                    return new NetworkStream(socket, true);
+                    var made = new Socket(address.AddressFamily, SocketType.Stream, ProtocolType.Tcp);
+                    Socket socket = Connected(made, new IPEndPoint(address, port));
+                    // A connection to a port that nobody has bound can come to be with itself.
+                    if (socket != null && !socket.LocalEndPoint.Equals(socket.RemoteEndPoint))
+                    {
+                        socket.NoDelay = true;
+                        return new NetworkStream(socket, true);
+                    }
+                    socket?.Dispose();
                 }
-                socket.Dispose();
                 return null;
+            }
+            catch (SocketException error)
+            {
+                throw new IOException(host + ", port " + port + ", can't be reached: " + error.Message, error);
+            }
+        }
+
+        /// <summary>The connection, or null if nobody listens, or there is no socket of this path yet.</summary>
+        private static Stream SocketNow(string path)
+        {
+            try
+            {
+                var made = new Socket(AddressFamily.Unix, SocketType.Stream, ProtocolType.Unspecified);
+                Socket socket = Connected(made, new SocketEnd(path));
+                return socket == null ? null : new NetworkStream(socket, true);
+            }
+            catch (SocketException error)
+            {
+                if (!File.Exists(path))
+                {
+                    return null;
+                }
+                throw new IOException("the socket " + path + " can't be reached: " + error.Message, error);
+            }
+        }
+
+        /// <summary>The socket once it is connected, or null if nobody listens.</summary>
+        private static Socket Connected(Socket socket, EndPoint end)
+        {
+            try
+            {
+                socket.Connect(end);
+                return socket;
             }
             catch (SocketException error)
             {
@@ -712,7 +900,35 @@ namespace MonitorRecorder
                 {
                     return null;
                 }
-                throw new IOException("port " + port + " can't be reached: " + error.Message, error);
+                throw;
+            }
+        }
+
+        /// <summary>A socket with a path, as the system takes it. Mono has that class in another assembly.</summary>
+        private sealed class SocketEnd : EndPoint
+        {
+            private readonly byte[] path;
+
+            internal SocketEnd(string path)
+            {
+                this.path = Utf8.GetBytes(path);
+            }
+
+            public override AddressFamily AddressFamily => AddressFamily.Unix;
+
+            public override SocketAddress Serialize()
+            {
+                var address = new SocketAddress(AddressFamily, 2 + path.Length + 1);
+                for (int place = 0; place < path.Length; place++)
+                {
+                    address[2 + place] = path[place];
+                }
+                return address;
+            }
+
+            public override EndPoint Create(SocketAddress address)
+            {
+                return this;
             }
         }
     }

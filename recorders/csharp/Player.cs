@@ -86,6 +86,9 @@ internal sealed class Player
         {
             case "file": Begin(words[0], ToFile(TextOf(words[0]), TextOf(words[1]))); break;
             case "port": Begin(words[0], ToPort(TextOf(words[0]), int.Parse(words[1]), SecondsOf(words[2]))); break;
+            case "again": Begin(words[0], ToFile(TextOf(words[0]), TextOf(words[1]), again: true)); break;
+            case "place": Begin(words[0], ToPlace(TextOf(words[0]), TextOf(words[1]))); break;
+            case "again-at": Begin(words[0], ToPlace(TextOf(words[0]), TextOf(words[1]), again: true)); break;
             case "strand": recorders[words[0]] = recorder.Strand(TextOf(words[0])); break;
             case "join": recorder.Join(recorders[words[0]], SettingsOf(rest)); break;
             case "in": return MakeIn(words[0], words[1], words.Skip(2).ToArray());
@@ -100,7 +103,8 @@ internal sealed class Player
             case "strands": TakeStrands(int.Parse(words[0]), int.Parse(words[1])); break;
             case "flood": Run(int.Parse(words[0]), _ => SendAll()); break;
             case "send-text": case "lock": case "unlock": case "put": case "take": case "locked": case "unlocked":
-            case "noted": case "replaced": case "note": case "signals": throw new NotSupportedException();
+            case "noted": case "replaced": case "note": case "signals": case "noted-again":
+                throw new NotSupportedException();
             default: throw new InvalidOperationException("no call " + call);
         }
         return null;

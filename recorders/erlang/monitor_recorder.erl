@@ -24,10 +24,10 @@
 -module(monitor_recorder).
 
 -export([trace/1, trace/2, set/1, join/1, stop/0]).
--export([to_file/2, to_port/2, to_port/3, from_environment/1, to_place/2]).
+-export([to_file/2, to_file/3, to_port/2, to_port/3, from_environment/1, from_environment/2, to_place/2, to_place/3]).
 -export([event/1, event/2, send/1, send/2, send_as/2, send_as/3, recv/2, recv/3, events/1]).
 -export([strand/2, join/2, join/3, close/1, abandon/1]).
--export_type([recorder/0, name/0, settings/0, word/0]).
+-export_type([recorder/0, name/0, settings/0, option/0, word/0]).
 
 -define(EVENT_LIMIT, 10000).
 -define(VARIABLE_LIMIT, 16).
@@ -39,6 +39,8 @@
 -define(CONNECT_MILLISECONDS, 10000).
 -define(PAUSE_MILLISECONDS, 50).
 -define(PORT_LIMIT, 65534).
+-define(SOCKET_BYTE_LIMIT, 107).
+-define(HERE, {127, 0, 0, 1}).
 -define(PLACE, "MONITOR_TO").
 
 -record(recorder, {server :: pid(), name :: binary()}).
@@ -84,13 +86,21 @@
 }).
 
 -opaque recorder() :: #recorder{}.
--type place() :: {file, file:filename_all()} | {port, inet:port_number(), non_neg_integer()}.
+-type place() :: {file | again, file:filename_all()} | {at, address(), non_neg_integer()}.
+%% The port of a host, by its name or address, or a socket with a path.
+-type address() :: {inet:hostname() | inet:ip_address(), inet:port_number()} | {local, binary()}.
 -type name() :: atom() | binary().
 %% Variables with their values from now on, in the order of a list, or of a map's names.
 -type settings() :: #{name() => integer() | boolean()} | [{name(), integer() | boolean()}].
 %% Why a call was refused.
 -type word() :: process_name | variable_name | value | variables | events | id | id_twice | ended | broken
-              | name_twice | processes | not_ended | place | process | taken.
+              | name_twice | processes | not_ended | place | running | again | process | taken.
+%% With `again' a file that is there is what the process recorded before it was killed and started again. Then a further
+%% incarnation is recorded, as a process of its own and to a file beside: of `left' and `left.stream' the second one is
+%% `left_2' in `left_2.stream'. Its first event receives the message `left-ended', by which it comes after all that the
+%% one before did; monitor_mend adds the send. It is refused while a process of this machine has the file of the one
+%% before open for writing, and on a system that doesn't tell by /proc which process has.
+-type option() :: again.
 
 %%% Erlang processes, recorded by what the runtime tells of their messages.
 
@@ -167,11 +177,16 @@ label_of(Pid) ->
         error:badarg -> none
     end.
 
-absolute(":" ++ _ = Port) -> Port;
-absolute("localhost:" ++ _ = Port) -> Port;
-absolute("127.0.0.1:" ++ _ = Port) -> Port;
-absolute("") -> "";
-absolute(Folder) -> filename:absname(Folder).
+absolute(Place) ->
+    Text = unicode:characters_to_list(Place),
+    case Text =/= "" andalso is_folder(Text) of
+        true -> filename:absname(Place);
+        false -> Place
+    end.
+
+%% A place with a colon and no slash is a port, and one that begins with unix: is a socket.
+is_folder("unix:" ++ _) -> false;
+is_folder(Text) -> not lists:member($:, Text) orelse lists:member($/, Text) orelse lists:member($\\, Text).
 
 %% The process of this node that takes what the runtime tells, and writes the streams.
 tracer() ->
@@ -391,7 +406,16 @@ ask(Tracer, Request) ->
 %% that makes it, and closes without an end line if that one exits. Other processes may use it.
 -spec to_file(name(), file:filename_all()) -> recorder().
 to_file(Process, Path) ->
-    opened(Process, {file, filename:absname(Path)}).
+    to_file(Process, Path, []).
+
+%% @doc The same, with options.
+-spec to_file(name(), file:filename_all(), [option()]) -> recorder().
+to_file(Process, Path, Options) ->
+    opened(Process, in_file(filename:absname(Path), Options)).
+
+in_file(Path, []) -> {file, Path};
+in_file(Path, [again | _]) when is_binary(Path) -> {again, Path};
+in_file(Path, Options) -> in_file(unicode:characters_to_binary(Path), Options).
 
 %% @doc Records to `monitor serve' on a port of this machine, 1 to 65,534, for which it waits ten seconds.
 -spec to_port(name(), inet:port_number()) -> recorder().
@@ -402,20 +426,34 @@ to_port(Process, Port) ->
 %% monitor doesn't read.
 -spec to_port(name(), inet:port_number(), non_neg_integer()) -> recorder().
 to_port(Process, Port, Milliseconds) ->
-    opened(Process, {port, Port, Milliseconds}).
+    opened(Process, {at, {?HERE, Port}, Milliseconds}).
 
 %% @doc Records to where MONITOR_TO in the environment says: to a new file NAME.stream in a folder of this name, which
-%% is made if there is none, or to `monitor serve' on a port of this machine, of :7411 or localhost:7411.
+%% is made if there is none, or to `monitor serve', on a port of this machine, of :7411 or localhost:7411, on one of
+%% another machine, of host:7411 or [fe80::1]:7411, or by a Unix socket, of unix:/run/monitor.sock. What has a colon and
+%% no slash is no folder.
 -spec from_environment(name()) -> recorder().
 from_environment(Process) ->
-    to_place(Process, os:getenv(?PLACE, "")).
+    from_environment(Process, []).
+
+%% @doc The same, with options. A connection keeps no earlier incarnation, so `again' is refused with one.
+-spec from_environment(name(), [option()]) -> recorder().
+from_environment(Process, Options) ->
+    to_place(Process, os:getenv(?PLACE, ""), Options).
 
 %% @doc The same, of a place that is given.
 -spec to_place(name(), file:filename_all()) -> recorder().
 to_place(Process, Place) ->
+    to_place(Process, Place, []).
+
+%% @doc The same, with options.
+-spec to_place(name(), file:filename_all(), [option()]) -> recorder().
+to_place(Process, Place, Options) ->
     Name = checked_name(process_name, Process),
     try in_folder(Name, place_of(Place)) of
-        In -> opened(Name, In)
+        {file, Path} -> opened(Name, in_file(Path, Options));
+        At when Options =:= [] -> opened(Name, At);
+        _ -> refuse(again, "~ts is a connection, and only a folder keeps an earlier incarnation", [Place])
     catch
         throw:Refusal -> answered(Refusal)
     end.
@@ -496,9 +534,9 @@ opened(Process, Place) ->
     Owner = self(),
     {Server, Monitor} = spawn_monitor(fun() -> begin_serving(Owner, Name, Place) end),
     receive
-        {Server, opened} ->
+        {Server, opened, Opened} ->
             demonitor(Monitor, [flush]),
-            #recorder{server = Server, name = Name};
+            #recorder{server = Server, name = Opened};
         {'DOWN', Monitor, process, Server, Reason} ->
             error(Reason)
     end.
@@ -522,10 +560,11 @@ answered({failed, Reason, _}) -> error({failed, Reason}).
 begin_serving(Owner, Name, Place) ->
     monitor(process, Owner),
     try opened_stream(Name, Place) of
-        Stream ->
-            Owner ! {self(), opened},
-            serving(#family{main = Name, place = Place, streams = #{Name => Stream}})
+        #stream{name = Opened} = Stream ->
+            Owner ! {self(), opened, Opened},
+            serving(#family{main = Opened, place = Place, streams = #{Opened => Stream}})
     catch
+        throw:{refused, Word, Text} -> exit({not_recorded, Word, Text});
         throw:{failed, Reason, _} -> exit({failed, Reason})
     end.
 
@@ -622,19 +661,46 @@ refuse_name(Name, Streams, Of) ->
 
 %%% One stream.
 
-%% The place that a text names: a folder, or a port of this machine.
+%% The place that a text names: a folder, a port, or a socket.
 place_of(Place) ->
-    case re:run(Place, "^(?:localhost|127\\.0\\.0\\.1)?:([0-9]{1,5})$", [{capture, all_but_first, list}]) of
-        {match, [Port]} ->
-            Number = list_to_integer(Port),
-            Number >= 1 andalso Number =< ?PORT_LIMIT
-                orelse throw_refused(place, "~ts is no place: a port is a number from 1 to ~b", [Place, ?PORT_LIMIT]),
-            {port, Number, ?CONNECT_MILLISECONDS};
-        nomatch when Place =:= ""; Place =:= <<>> ->
-            throw_refused(place, "~ts isn't set: it names a folder, or a port as :7411", [?PLACE]);
-        nomatch ->
-            {folder, Place}
+    Text = unicode:characters_to_list(Place),
+    case Text =/= "" andalso is_folder(Text) of
+        true -> {folder, Place};
+        false -> {at, address_of(Text), ?CONNECT_MILLISECONDS}
     end.
+
+address_of("") ->
+    throw_refused(place, "~ts isn't set: it names ~ts", [?PLACE, places()]);
+address_of("unix:" ++ Path) ->
+    Bytes = unicode:characters_to_binary(Path),
+    lists:prefix("/", Path) andalso byte_size(Bytes) =< ?SOCKET_BYTE_LIMIT
+        orelse throw_refused(place, "unix:~ts is no place: the path of a socket begins with / and has at most ~b bytes",
+                             [Path, ?SOCKET_BYTE_LIMIT]),
+    {local, Bytes};
+address_of(Text) ->
+    Pattern = "\\A(?:\\[([0-9A-Fa-f:.]+(?:%[A-Za-z0-9._-]+)?)\\]|([A-Za-z0-9._-]*)):([0-9]{1,5})\\z",
+    case re:run(Text, Pattern, [unicode, {capture, all_but_first, list}]) of
+        {match, [Address, Name, Digits]} ->
+            Port = list_to_integer(Digits),
+            Port >= 1 andalso Port =< ?PORT_LIMIT orelse refuse_place(Text),
+            {host_of(Address ++ Name), Port};
+        nomatch ->
+            refuse_place(Text)
+    end.
+
+host_of(Host) when Host =:= ""; Host =:= "localhost" -> ?HERE;
+host_of(Host) ->
+    case inet:parse_address(Host) of
+        {ok, Address} -> Address;
+        {error, _} -> Host
+    end.
+
+refuse_place(Text) ->
+    throw_refused(place, "~ts is no place, which is ~ts", [Text, places()]).
+
+places() ->
+    text("a folder, which has a slash if it has a colon, a port as :7411, host:7411 or [::1]:7411, from 1 to ~b, or a"
+         " socket as unix:/run/a.sock", [?PORT_LIMIT]).
 
 in_folder(Name, {folder, Folder}) ->
     Path = filename:join(Folder, <<Name/binary, ".stream">>),
@@ -642,12 +708,12 @@ in_folder(Name, {folder, Folder}) ->
         ok -> {file, filename:absname(Path)};
         {error, Reason} -> throw({failed, Reason, none})
     end;
-in_folder(_, Port) ->
-    Port.
+in_folder(_, At) ->
+    At.
 
 %% The place of a strand's stream.
-beside(Name, {file, Path}) -> {file, filename:join(filename:dirname(Path), <<Name/binary, ".stream">>)};
-beside(_, Port) -> Port.
+beside(Name, {Kind, Path}) when Kind =:= file; Kind =:= again -> {file, filename:join(filename:dirname(Path), <<Name/binary, ".stream">>)};
+beside(_, At) -> At.
 
 %% A stream that has its first line.
 opened_stream(Name, {file, Path}) ->
@@ -655,9 +721,89 @@ opened_stream(Name, {file, Path}) ->
         {ok, File} -> joined(#stream{name = Name, out = {file, File}});
         {error, Reason} -> throw({failed, Reason, none})
     end;
-opened_stream(Name, {port, Port, Milliseconds}) ->
+opened_stream(Name, {again, Path}) ->
+    incarnation(Name, Path);
+opened_stream(Name, {at, Address, Milliseconds}) ->
     Until = erlang:monotonic_time(millisecond) + Milliseconds,
-    joined(#stream{name = Name, out = {socket, connected(Port, Until)}}).
+    joined(#stream{name = Name, out = {socket, connected(Address, Until)}}).
+
+%% An incarnation of a process, to the first of its files that isn't there yet. It gets its name once the receipt
+%% stands in it, so that it has that whenever the process is killed.
+incarnation(Process, First) ->
+    Number = free_place(fun(Tried) -> path_of(First, Tried) end),
+    {Name, Path} = {incarnation_of(Process, Number), path_of(First, Number)},
+    Number > 1 andalso refuse_running(incarnation_of(Process, Number - 1), path_of(First, Number - 1)),
+    name_of(process_name, Name),
+    Parts = fun(Tried) -> part_of(Path, Tried) end,
+    Part = Parts(free_place(Parts)),
+    Stream = opened_stream(Name, {file, Part}),
+    try
+        Received = received_end(Process, Number, Stream),
+        case file:rename(Part, Path) of
+            ok -> Received;
+            {error, Reason} -> throw({failed, Reason, none})
+        end
+    catch
+        throw:Failure -> closed(Stream), _ = file:delete(Part), throw(Failure)
+    end.
+
+received_end(_, 1, Stream) -> Stream;
+received_end(Process, Number, Stream) ->
+    put_line(recv, <<(incarnation_of(Process, Number - 1))/binary, "-ended">>, [], Stream).
+
+incarnation_of(Process, 1) -> Process;
+incarnation_of(Process, Number) -> <<Process/binary, $_, (integer_to_binary(Number))/binary>>.
+
+%% The file of this incarnation, if that of the first one is given.
+path_of(First, 1) -> First;
+path_of(First, Number) ->
+    <<(filename:rootname(First))/binary, $_, (integer_to_binary(Number))/binary, (filename:extension(First))/binary>>.
+
+%% Where a file stands until it gets its name. A node that was killed before may have had the number of this one.
+part_of(Path, 1) -> iolist_to_binary([Path, ".", os:getpid(), ".part"]);
+part_of(Path, Number) -> iolist_to_binary([Path, ".", os:getpid(), "-", integer_to_list(Number), ".part"]).
+
+%% The first number of which no file is there.
+free_place(Path) -> free_place(1, Path).
+
+free_place(Number, Path) ->
+    case file:read_link_info(Path(Number)) of
+        {error, enoent} -> Number;
+        {error, Reason} -> throw({failed, Reason, none});
+        {ok, _} -> free_place(Number + 1, Path)
+    end.
+
+%% Refuses what is started while an earlier incarnation still runs: Erlang has no locks of files, but /proc tells which
+%% process of this machine has its file open for writing. What belongs to another user isn't told.
+refuse_running(Name, Path) ->
+    filelib:is_dir("/proc/self/fd")
+        orelse throw_refused(again, "this system doesn't tell by /proc whether ~ts has ended", [Name]),
+    Own = identity(Path),
+    IsWriter = fun(Link) -> is_written(Link) andalso identity(Link) =:= Own end,
+    Folders = filelib:wildcard("/proc/[0-9]*/fd"),
+    lists:any(fun(Folder) -> lists:any(IsWriter, links_in(Folder)) end, Folders)
+        andalso throw_refused(running, "~ts still runs and records to ~ts: what is started beside it is no later"
+                                       " incarnation, but a process of its own", [Name, Path]).
+
+links_in(Folder) ->
+    case file:list_dir(Folder) of
+        {ok, Names} -> [filename:join(Folder, Name) || Name <- Names];
+        {error, _} -> []
+    end.
+
+%% Whether a descriptor is open for writing, by the rights of its link.
+is_written(Link) ->
+    case file:read_link_info(Link) of
+        {ok, Info} -> element(8, Info) band 8#200 =/= 0; % the mode of a #file_info{}, whose file OTP has apart
+        {error, _} -> false
+    end.
+
+%% The device and the number of a file, by the same.
+identity(Path) ->
+    case file:read_file_info(Path) of
+        {ok, Info} -> {element(10, Info), element(12, Info)};
+        {error, Reason} -> {error, Reason, Path}
+    end.
 
 joined(#stream{name = Name} = Stream) ->
     try
@@ -666,24 +812,42 @@ joined(#stream{name = Name} = Stream) ->
         throw:Failure -> closed(Stream), throw(Failure)
     end.
 
-%% A connection to a port of this machine, on which nobody may listen yet.
-connected(Port, Until) ->
-    {ok, Socket} = socket:open(inet, stream, tcp),
-    case connected_now(Socket, #{family => inet, addr => {127, 0, 0, 1}, port => Port}) of
+%% A connection to an address, where nobody may listen yet.
+connected(Address, Until) ->
+    {Domain, Protocol, End} = end_of(Address),
+    {ok, Socket} = socket:open(Domain, stream, Protocol),
+    case connected_now(Socket, End) of
         ok ->
-            ok = socket:setopt(Socket, {tcp, nodelay}, true),
+            Protocol =:= tcp andalso (ok = socket:setopt(Socket, {tcp, nodelay}, true)),
             Socket;
         {error, Reason} ->
             socket:close(Socket),
-            IsLate = Reason =/= econnrefused orelse erlang:monotonic_time(millisecond) >= Until,
+            ComesLater = Reason =:= econnrefused orelse Reason =:= enoent,
+            IsLate = not ComesLater orelse erlang:monotonic_time(millisecond) >= Until,
             IsLate andalso throw({failed, Reason, none}),
             timer:sleep(?PAUSE_MILLISECONDS),
-            connected(Port, Until)
+            connected(Address, Until)
+    end.
+
+%% What a socket is opened for and connected to. A name is looked up for IPv4 first.
+end_of({local, Path}) ->
+    {local, default, #{family => local, path => Path}};
+end_of({Host, Port}) when tuple_size(Host) =:= 4 ->
+    {inet, tcp, #{family => inet, addr => Host, port => Port}};
+end_of({Host, Port}) when tuple_size(Host) =:= 8 ->
+    {inet6, tcp, #{family => inet6, addr => Host, port => Port, flowinfo => 0, scope_id => 0}};
+end_of({Name, Port}) ->
+    case {inet:getaddr(Name, inet), inet:getaddr(Name, inet6)} of
+        {{ok, Address}, _} -> end_of({Address, Port});
+        {_, {ok, Address}} -> end_of({Address, Port});
+        {{error, Reason}, _} -> throw({failed, Reason, none})
     end.
 
 %% A connection to a port that nobody has bound can come to be with itself.
-connected_now(Socket, Address) ->
-    case socket:connect(Socket, Address) of
+connected_now(Socket, #{family := local} = End) ->
+    socket:connect(Socket, End);
+connected_now(Socket, End) ->
+    case socket:connect(Socket, End) of
         ok ->
             case socket:sockname(Socket) =:= socket:peername(Socket) of
                 true -> {error, econnrefused};

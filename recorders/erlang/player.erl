@@ -39,10 +39,19 @@ make(<<"file">>, [Process, Path], _) ->
 make(<<"port">>, [Process, Port, Seconds], _) ->
     Milliseconds = round(1000 * number(Seconds)),
     begun(Process, monitor_recorder:to_port(text(Process), binary_to_integer(Port), Milliseconds));
+make(<<"again">>, [Process, Path], _) ->
+    begun(Process, monitor_recorder:to_file(text(Process), text(Path), [again]));
+make(<<"place">>, [Process, Place], _) ->
+    true = os:putenv("MONITOR_TO", binary_to_list(text(Place))),
+    begun(Process, monitor_recorder:from_environment(text(Process)));
+make(<<"again-at">>, [Process, Place], _) ->
+    true = os:putenv("MONITOR_TO", binary_to_list(text(Place))),
+    begun(Process, monitor_recorder:from_environment(text(Process), [again]));
 make(<<"close">>, [], #played{process = none}) -> ok;
 make(Call, _, _) when Call =:= <<"send-text">>; Call =:= <<"lock">>; Call =:= <<"unlock">>; Call =:= <<"put">>;
                       Call =:= <<"take">>; Call =:= <<"locked">>; Call =:= <<"unlocked">>; Call =:= <<"noted">>;
-                      Call =:= <<"replaced">>; Call =:= <<"note">>; Call =:= <<"signals">> ->
+                      Call =:= <<"replaced">>; Call =:= <<"note">>; Call =:= <<"signals">>;
+                      Call =:= <<"noted-again">> ->
     throw(cannot);
 make(<<"in">>, [Name, Call | Words], #played{process = Process} = Played) ->
     case make(Call, Words, Played#played{process = Name}) of

@@ -47,6 +47,7 @@ import (
 	"os"
 	"path/filepath"
 	"reflect"
+	"regexp"
 	"runtime"
 	"strconv"
 	"strings"
@@ -70,6 +71,9 @@ const (
 	patience  = 10 * time.Second
 	pause     = 50 * time.Millisecond
 	portLimit = 65534
+	here      = "127.0.0.1"
+
+	socketPrefix, socketByteLimit = "unix:", 107
 
 	ending, notesEnding = ".stream", ".notes.jsonl"
 )
@@ -81,6 +85,12 @@ type Options struct {
 	// Notes gives each event a note, in a file beside: that of left.stream is left.notes.jsonl. The path has to end with
 	// .stream then. docs/RECORDING.md has the format.
 	Notes bool
+	// Again takes a file that is there for what the process recorded before it was killed and started again, and records
+	// a further incarnation, as a process of its own and to a file beside: of left and left.stream the second one is
+	// left_2 in left_2.stream. Its first event receives the message left-ended, by which it comes after all that the one
+	// before did; monitor_mend adds the send. It is ErrRunning while the one before still runs. It needs POSIX's locks,
+	// by which that is seen: they are in lock_unix.go.
+	Again bool
 }
 
 // ErrNotRecorded is what each error of a call is, by errors.Is, that was refused and wrote nothing.
@@ -115,8 +125,16 @@ var (
 	ErrNoPlace error = refusal("no place for the stream of a strand: make the recorder by ToFile or ToPort")
 	// ErrNotEnded: what is to be joined is no strand that has ended.
 	ErrNotEnded error = refusal("no strand that has ended: wait for it, and then join it")
-	// ErrPlace says that MONITOR_TO isn't set, or isn't a port that there is.
-	ErrPlace error = refusal("MONITOR_TO names no place: it names a folder, or a port from 1 to 65534 as :7411")
+	// ErrPlace says that MONITOR_TO isn't set, or names no folder, port or socket that there can be.
+	ErrPlace error = refusal("MONITOR_TO names no place: it names a folder, which has a slash if it has a colon, a port " +
+		"as :7411, host:7411 or [::1]:7411, from 1 to 65534, or a socket as unix:/run/a.sock, of at most 107 bytes")
+	// ErrRunning: an earlier incarnation of the process still runs.
+	ErrRunning error = refusal("an earlier incarnation still runs: what is started beside it is no later one, but a " +
+		"process of its own")
+	// ErrAgain says that no earlier incarnation can be told, as of a connection, of a file that is replaced, or on a
+	// system without POSIX's locks.
+	ErrAgain error = refusal("no earlier incarnation is there to be told: it has a file in a folder, which isn't " +
+		"replaced, and this system has to have locks, which are in lock_unix.go")
 	// ErrNotes says that there is no place for notes, as at a port, or that MONITOR_NOTES is neither 1 nor 0.
 	ErrNotes error = refusal("no place for notes, which go beside a file whose name ends with .stream and to no port; " +
 		"MONITOR_NOTES is 1 for notes, and else 0 or not set")
@@ -195,17 +213,129 @@ func (o Options) ToFile(process, path string) (*Recorder, error) {
 	if o.Notes && !strings.HasSuffix(first, ending) {
 		return nil, refused(path, ErrNotes)
 	}
-	out, err := newFiles(path, o)
-	if err != nil {
-		return nil, err
-	}
-	return over(process, out, func(name string) (files, error) {
+	open := func(name string) (files, error) {
 		beside := filepath.Join(filepath.Dir(first), name+ending)
 		if o.Replace && isSameFile(beside, first) {
 			return files{}, already(fs.ErrExist)
 		}
 		return newFiles(beside, o)
-	})
+	}
+	if o.Again {
+		return o.incarnation(process, first, open)
+	}
+	out, err := newFiles(path, o)
+	if err != nil {
+		return nil, err
+	}
+	return over(process, out, open)
+}
+
+// Locks of POSIX: that of a file which this process writes, and whether another process has one. They are nil where
+// there are none.
+var (
+	lock     func(file *os.File)
+	isLocked func(file *os.File) bool
+)
+
+// incarnation records to the first file of the process that isn't there yet.
+func (o Options) incarnation(process, first string, open func(string) (files, error)) (*Recorder, error) {
+	if o.Replace || lock == nil {
+		return nil, refused(process, ErrAgain)
+	}
+	number := 1
+	for isThere(pathOf(first, number)) {
+		number++
+	}
+	name, path := incarnationOf(process, number), pathOf(first, number)
+	if number > 1 {
+		if err := runs(incarnationOf(process, number-1), pathOf(first, number-1)); err != nil {
+			return nil, err
+		}
+	}
+	if !isName(name) {
+		return nil, refused(name, ErrProcessName)
+	}
+	// It gets its name once the receipt stands in it, so that it has that whenever the process is killed.
+	part := newPart(path)
+	r, err := o.inPart(name, path, part, open)
+	if err == nil && number > 1 {
+		err = r.Receive(incarnationOf(process, number-1) + "-ended")
+	}
+	if err == nil {
+		err = os.Rename(part, path)
+	}
+	if err != nil {
+		if r != nil {
+			r.closeOut()
+		}
+		os.Remove(part)
+		return nil, err
+	}
+	return r, nil
+}
+
+// inPart records to a new file with a lock. Notes that are there are of an incarnation that was killed before its
+// stream had its name.
+func (o Options) inPart(name, path, part string, open func(string) (files, error)) (*Recorder, error) {
+	out, err := os.OpenFile(part, os.O_WRONLY|os.O_CREATE|os.O_EXCL, 0o666)
+	if err != nil {
+		return nil, err
+	}
+	lock(out)
+	made := files{out: out}
+	if o.Notes {
+		made.notes, err = newFile(strings.TrimSuffix(path, ending)+notesEnding, Options{Replace: true})
+		if err != nil {
+			out.Close()
+			return nil, err
+		}
+	}
+	return over(name, made, open)
+}
+
+// runs is an error if the earlier incarnation with this file still runs.
+func runs(process, path string) error {
+	file, err := os.Open(path)
+	if err != nil {
+		return err
+	}
+	defer file.Close()
+	if isLocked(file) {
+		return refused(process, ErrRunning)
+	}
+	return nil
+}
+
+// incarnationOf is the name of this incarnation of a process.
+func incarnationOf(process string, number int) string {
+	if number == 1 {
+		return process
+	}
+	return process + "_" + strconv.Itoa(number)
+}
+
+// pathOf is the file of this incarnation, if that of the first one is given.
+func pathOf(first string, number int) string {
+	ext := filepath.Ext(first)
+	if ext == filepath.Base(first) {
+		ext = "" // a name that begins with its only dot
+	}
+	return incarnationOf(strings.TrimSuffix(first, ext), number) + ext
+}
+
+// newPart is where a file stands until it gets its name. A process that was killed before may have had the number of
+// this one.
+func newPart(path string) string {
+	part := fmt.Sprintf("%s.%d.part", path, os.Getpid())
+	for number := 2; isThere(part); number++ {
+		part = fmt.Sprintf("%s.%d-%d.part", path, os.Getpid(), number)
+	}
+	return part
+}
+
+func isThere(path string) bool {
+	_, err := os.Lstat(path)
+	return err == nil
 }
 
 // Files are that of a stream and that of its notes, which is nil if it has none.
@@ -283,20 +413,60 @@ func ToPort(ctx context.Context, process string, port int) (*Recorder, error) {
 	if !isName(process) {
 		return nil, refused(process, ErrProcessName)
 	}
-	connection, err := connectionTo(ctx, port)
+	return address{"tcp4", net.JoinHostPort(here, strconv.Itoa(port))}.record(ctx, process)
+}
+
+// An address is where monitor serve listens, as the package net takes it.
+type address struct{ network, text string }
+
+func (a address) record(ctx context.Context, process string) (*Recorder, error) {
+	connection, err := a.connection(ctx)
 	if err != nil {
 		return nil, err
 	}
 	return over(process, files{out: connection}, func(string) (files, error) {
-		connection, err := connectionTo(context.Background(), port)
+		connection, err := a.connection(context.Background())
 		return files{out: connection}, err
 	})
 }
 
+// addressOf is the port or the socket that MONITOR_TO names. A folder is no address.
+func addressOf(place string) (a address, isFolder bool, err error) {
+	switch path := strings.TrimPrefix(place, socketPrefix); {
+	case place == "":
+		return address{}, false, refused(place, ErrPlace)
+	case path != place && (!strings.HasPrefix(path, "/") || len(path) > socketByteLimit):
+		return address{}, false, refused(place, ErrPlace)
+	case path != place:
+		return address{"unix", path}, false, nil
+	case !strings.Contains(place, ":") || strings.ContainsAny(place, `/\`):
+		return address{}, true, nil
+	}
+	found := portPattern.FindStringSubmatch(place)
+	if found == nil {
+		return address{}, false, refused(place, ErrPlace)
+	}
+	port, err := strconv.ParseUint(found[3], 10, 16)
+	if err != nil || port < 1 || port > portLimit {
+		return address{}, false, refused(place, ErrPlace)
+	}
+	host := found[1] + found[2]
+	if host == "" || host == "localhost" {
+		host = here
+	}
+	return address{"tcp", net.JoinHostPort(host, found[3])}, false, nil
+}
+
+// A port of this machine, or of another one by its name or address. One of IPv6 stands in brackets.
+var portPattern = regexp.MustCompile(
+	`^(?:\[([0-9A-Fa-f:.]+(?:%[A-Za-z0-9._-]+)?)\]|([A-Za-z0-9._-]*)):([0-9]{1,5})$`)
+
 // FromEnvironment records to where MONITOR_TO in the environment says, so that no code changes between a test and a
-// live session: to a new file NAME.stream in a folder of this name, which is made if there is none; or to monitor serve
-// on a port of this machine, of :7411 or localhost:7411. With MONITOR_NOTES=1 each event gets a note beside the file; a
-// port has no place for notes, so the two together are ErrNotes.
+// live session: to a new file NAME.stream in a folder of this name, which is made if there is none; or to monitor
+// serve, on a port of this machine, of :7411 or localhost:7411, on one of another machine, of host:7411 or
+// [fe80::1]:7411, or by a Unix socket, of unix:/run/monitor.sock. With MONITOR_NOTES=1 each event gets a note beside
+// the file. A connection has no place for notes, and keeps no earlier incarnation, so with one notes are ErrNotes, and
+// [Options] with Again are ErrAgain. What has a colon and no slash is no folder.
 func FromEnvironment(ctx context.Context, process string) (*Recorder, error) {
 	return Options{}.FromEnvironment(ctx, process)
 }
@@ -307,29 +477,25 @@ func (o Options) FromEnvironment(ctx context.Context, process string) (*Recorder
 		return nil, refused(process, ErrProcessName)
 	}
 	place := os.Getenv("MONITOR_TO")
-	host, digits, isPort := strings.Cut(place, ":")
-	port, err := strconv.ParseUint(digits, 10, 16)
-	isPort = isPort && (host == "" || host == "localhost" || host == "127.0.0.1") && isDecimal(digits)
+	address, isFolder, err := addressOf(place)
 	wanted := os.Getenv("MONITOR_NOTES")
 	o.Notes = o.Notes || wanted == "1"
 	switch {
-	case place == "" || isPort && (err != nil || port < 1 || port > portLimit):
-		return nil, refused(place, ErrPlace)
+	case err != nil:
+		return nil, err
 	case wanted != "" && wanted != "0" && wanted != "1":
 		return nil, refused(wanted, ErrNotes)
-	case isPort && o.Notes:
+	case !isFolder && o.Notes:
 		return nil, refused(place, ErrNotes)
-	case isPort:
-		return ToPort(ctx, process, int(port))
+	case !isFolder && o.Again:
+		return nil, refused(place, ErrAgain)
+	case !isFolder:
+		return address.record(ctx, process)
 	}
 	if err := os.MkdirAll(place, 0o777); err != nil {
 		return nil, err
 	}
 	return o.ToFile(process, filepath.Join(place, process+ending))
-}
-
-func isDecimal(text string) bool {
-	return len(text) >= 1 && len(text) <= 5 && strings.Trim(text, "0123456789") == ""
 }
 
 // New records to a file, a connection or whatever else takes bytes, without a buffer of its own. It is closed with the
@@ -913,8 +1079,8 @@ func isName(name string) bool {
 	return len(name) <= NameByteLimit
 }
 
-// connectionTo is a connection to a port of this machine, on which nobody may listen yet.
-func connectionTo(ctx context.Context, port int) (net.Conn, error) {
+// connection is a connection to the address, where nobody may listen yet.
+func (a address) connection(ctx context.Context) (net.Conn, error) {
 	inTime := ctx
 	if _, ok := ctx.Deadline(); !ok {
 		var cancel context.CancelFunc
@@ -922,30 +1088,31 @@ func connectionTo(ctx context.Context, port int) (net.Conn, error) {
 		defer cancel()
 	}
 	for {
-		connection, err := connectionNow(inTime, port)
-		if !errors.Is(err, syscall.ECONNREFUSED) {
+		connection, err := a.connectionNow(inTime)
+		comesLater := a.network == "unix" && errors.Is(err, fs.ErrNotExist)
+		if !errors.Is(err, syscall.ECONNREFUSED) && !comesLater {
 			return connection, err
 		}
 		select {
 		case <-time.After(pause):
 		case <-inTime.Done():
 			if ctx.Err() != nil {
-				err = fmt.Errorf("record: nobody listens on port %d: %w", port, ctx.Err())
+				err = fmt.Errorf("record: nobody listens at %s: %w", a.text, ctx.Err())
 			}
 			return nil, err
 		}
 	}
 }
 
-func connectionNow(ctx context.Context, port int) (net.Conn, error) {
-	connection, err := new(net.Dialer).DialContext(ctx, "tcp4", net.JoinHostPort("127.0.0.1", strconv.Itoa(port)))
+func (a address) connectionNow(ctx context.Context) (net.Conn, error) {
+	connection, err := new(net.Dialer).DialContext(ctx, a.network, a.text)
 	if err != nil {
 		return nil, err
 	}
 	// A connection to a port that nobody has bound can come to be with itself.
-	if connection.LocalAddr().String() == connection.RemoteAddr().String() {
+	if a.network != "unix" && connection.LocalAddr().String() == connection.RemoteAddr().String() {
 		connection.Close()
-		return nil, fmt.Errorf("record: nobody listens on port %d: %w", port, syscall.ECONNREFUSED)
+		return nil, fmt.Errorf("record: nobody listens at %s: %w", a.text, syscall.ECONNREFUSED)
 	}
 	return connection, nil
 }

@@ -74,6 +74,11 @@ final class Player {
             case "file" -> openFile(words);
             case "noted" -> openFile(words, Option.NOTES);
             case "replaced" -> openFile(words, Option.REPLACE);
+            case "again" -> openFile(words, Option.AGAIN);
+            case "noted-again" -> openFile(words, Option.AGAIN, Option.NOTES);
+            case "place" -> begin(words.get(0), Recorder.toPlace(textOf(words.get(0)), textOf(words.get(1))));
+            case "again-at" -> begin(words.get(0),
+                    Recorder.toPlace(textOf(words.get(0)), textOf(words.get(1)), Option.AGAIN));
             case "note" -> {
                 return makeNoted(words.get(0), words.get(1), words.subList(2, words.size()));
             }

@@ -11,6 +11,11 @@ import java.net.ConnectException;
 import java.net.InetAddress;
 import java.net.ServerSocket;
 import java.net.Socket;
+import java.net.StandardProtocolFamily;
+import java.net.UnixDomainSocketAddress;
+import java.nio.channels.Channels;
+import java.nio.channels.ServerSocketChannel;
+import java.nio.channels.SocketChannel;
 import java.nio.charset.StandardCharsets;
 import java.nio.file.FileAlreadyExistsException;
 import java.nio.file.Files;
@@ -54,6 +59,7 @@ final class RecorderTest {
         files(folder);
         aPortOnWhichNobodyListens();
         aPlaceThatTheEnvironmentNames();
+        interruptedAtASocket();
         threadsWithAStrandEach(folder);
         aStrandThatIsLeftByAnExceptionHasEnded(folder);
         strandsAreClosedWithTheirProcess(folder);
@@ -191,6 +197,22 @@ final class RecorderTest {
         seeThrown(IOException.class, () -> Recorder.toFile("left", folder.resolve("none").resolve("left.stream")));
     }
 
+    private static void interruptedAtASocket() throws IOException {
+        Path path = Files.createTempDirectory("recorder").resolve("monitor.sock");
+        try (ServerSocketChannel server = ServerSocketChannel.open(StandardProtocolFamily.UNIX)) {
+            server.bind(UnixDomainSocketAddress.of(path));
+            Recorder recorder = Recorder.toPlace("left", "unix:" + path);
+            try (SocketChannel accepted = server.accept()) {
+                Thread.currentThread().interrupt();
+                recorder.event();
+                see(Thread.interrupted(), true);
+                recorder.end();
+                see(new String(Channels.newInputStream(accepted).readAllBytes()), JOIN + "{}\n" + END);
+            }
+        }
+        Files.delete(path);
+    }
+
     private static void aPlaceThatTheEnvironmentNames() throws IOException {
         Path into = Files.createTempDirectory("recorder").resolve("new").resolve("folder");
         Recorder.toPlace("left", into.toString()).end();
@@ -219,6 +241,11 @@ final class RecorderTest {
                 Socket ours = new Socket(server.getInetAddress(), server.getLocalPort())) {
             int port = ours.getLocalPort(); // nobody can listen there while it is the end of a connection
             seeThrown(ConnectException.class, () -> Recorder.toPort("left", port, Duration.ofMillis(1)));
+            try {
+                Recorder.toPort("left", port, Duration.ofMillis(1));
+            } catch (ConnectException error) {
+                see(error.getMessage(), "nobody listens at 127.0.0.1:" + port);
+            }
             Thread.currentThread().interrupt();
             seeThrown(InterruptedIOException.class, () -> Recorder.toPort("left", port));
             see(Thread.interrupted(), true);

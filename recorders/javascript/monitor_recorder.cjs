@@ -37,7 +37,7 @@
 const { AsyncLocalStorage } = require("node:async_hooks");
 const fs = require("node:fs");
 const path = require("node:path");
-const { env: environment } = require("node:process");
+const { env: environment, pid: processId } = require("node:process");
 const { fileURLToPath } = require("node:url");
 const { Worker } = require("node:worker_threads");
 
@@ -56,6 +56,13 @@ const GREATEST_VALUE = 2n ** 63n - 1n;
 const NAME = /^[A-Za-z_][A-Za-z0-9_]*$/;
 const RESERVED = ["and", "or", "not", "true", "false"];
 const PATIENCE_SECONDS = 10;
+// A port: of this machine, or of another one by its name or address. One of IPv6 stands in brackets.
+const PORT = /^(?:\[([0-9A-Fa-f:.]+(?:%[A-Za-z0-9._-]+)?)\]|([A-Za-z0-9._-]*)):([0-9]{1,5})$/;
+const PORT_LIMIT = 65_534;
+const [SOCKET, SOCKET_BYTE_LIMIT] = ["unix:", 107];
+const HERE = "127.0.0.1";
+const PLACES =
+  `a folder, a port as :7411, host:7411 or [::1]:7411, from 1 to ${PORT_LIMIT}, ` + "or a socket as unix:/run/a.sock";
 const SHOWN = 60; // so many letters of a wrong value are shown
 const [OPEN, ENDED, BROKEN] = ["open", "ended", "broken"];
 const STATES = { ended: "has ended", broken: "is broken off, since a line could not be written" };
@@ -115,16 +122,50 @@ class Recorder {
    * Records to a new file. One that is there already is an error with the code EEXIST; with `replace` it is lost, with
    * its notes. With `notes` each event gets a note, in a file beside: that of `left.stream` is `left.notes.jsonl`. The
    * path has to end with `.stream` then. docs/RECORDING.md has the format.
+   *
+   * With `again` a file that is there is what the process recorded before it was killed and started again. Then a
+   * further incarnation is recorded, as a process of its own and to a file beside: of `left` and `left.stream` the
+   * second one is `left_2` in `left_2.stream`. Its first event receives the message `left-ended`, by which it comes
+   * after all that the one before did; monitor_mend adds the send. It is refused while a process of this machine still
+   * has the file of the one before open for writing, and on a system that doesn't tell by /proc which process has.
    */
   static toFile(process, file, options = {}) {
     checkedName("process", process);
     const first = path.resolve(file instanceof URL ? fileURLToPath(file) : String(file)); // the folder may change
+    if (options.again && options.replace) {
+      throw new NotRecorded("again", "a file that is replaced has no recording of an earlier incarnation");
+    }
     if (options.notes && !first.endsWith(ENDING)) {
       const advice = `notes of left${ENDING} are in left${NOTES_ENDING}`;
       throw new NotRecorded("notes", `${JSON.stringify(first)} doesn't end with ${ENDING}: ${advice}`);
     }
     const opened = (name) => openedFiles(besideOf(first, name, options), options);
+    if (options.again) return Recorder.#incarnation(process, first, options, opened);
     return Recorder.#over(process, openedFiles(first, options), opened);
+  }
+
+  static #incarnation(process, first, { notes = false }, opened) {
+    let number = 1;
+    while (isThere(pathOf(first, number))) number++;
+    const [file, name] = [pathOf(first, number), incarnationOf(process, number)];
+    if (number > 1) refuseRunning(incarnationOf(process, number - 1), pathOf(first, number - 1));
+    checkedName("process", name);
+    // It gets its name once the receipt stands in it, so that it has that whenever the process is killed. Notes that
+    // are there are of an incarnation that was killed before its stream had its name.
+    const part = newPart(file);
+    const out = openedFile(part, false);
+    let recorder;
+    try {
+      const made = { out, notes: notes ? openedFile(notesOf(file), true) : undefined };
+      recorder = Recorder.#over(name, made, opened);
+      if (number > 1) recorder.receive(endingOf(incarnationOf(process, number - 1)));
+      fs.renameSync(part, file);
+      return recorder;
+    } catch (error) {
+      if (recorder !== undefined) recorder.#close();
+      fs.rmSync(part, { force: true });
+      throw error;
+    }
   }
 
   /**
@@ -133,34 +174,41 @@ class Recorder {
    * thread waiting, while the monitor doesn't read.
    */
   static async toPort(process, port, { seconds = PATIENCE_SECONDS } = {}) {
+    return Recorder.#toAddress(process, { host: HERE, port }, seconds);
+  }
+
+  static async #toAddress(process, address, seconds) {
     checkedName("process", process);
-    const opened = () => ({ out: Connection.now(port, seconds) });
-    return Recorder.#over(process, { out: await Connection.to(port, seconds) }, opened);
+    const opened = () => ({ out: Connection.now(address, seconds) });
+    return Recorder.#over(process, { out: await Connection.to(address, seconds) }, opened);
   }
 
   /**
    * Records to where MONITOR_TO in the environment says, so that no code changes between a test and a live session: to
-   * a new file NAME.stream in a folder of this name, which is made if there is none; or to `monitor serve` on a port of
-   * this machine, of :7411 or localhost:7411. With MONITOR_NOTES=1 each event gets a note beside the file; a port has no
-   * place for notes, so the two together are refused.
+   * a new file NAME.stream in a folder of this name, which is made if there is none; or to `monitor serve`, on a port
+   * of this machine, of :7411 or localhost:7411, on one of another machine, of host:7411 or [fe80::1]:7411, or by a
+   * Unix socket, of unix:/run/monitor.sock. With MONITOR_NOTES=1 each event gets a note beside the file. A connection
+   * has no place for notes, and keeps no earlier incarnation, so `again` and notes are refused with one. What has a
+   * colon and no slash is no folder.
    */
-  static async fromEnvironment(process, { replace = false } = {}) {
+  static async fromEnvironment(process, { again = false, replace = false } = {}) {
     checkedName("process", process);
     const place = environment.MONITOR_TO ?? "";
     const notes = hasNotes(environment.MONITOR_NOTES ?? "");
-    const advice = "it names a folder, or a port from 1 to 65534 as :7411";
-    if (place === "") throw new NotRecorded("place", `MONITOR_TO isn't set: ${advice}`);
-    const port = /^(?:localhost|127\.0\.0\.1)?:([0-9]{1,5})$/.exec(place);
-    if (port === null) {
+    const address = addressOf(place);
+    if (address === undefined) {
       fs.mkdirSync(place, { recursive: true });
-      return Recorder.toFile(process, path.join(place, process + ENDING), { notes, replace });
+      return Recorder.toFile(process, path.join(place, process + ENDING), { again, notes, replace });
     }
-    if (port[1] < 1 || port[1] > 65_534) throw new NotRecorded("place", `MONITOR_TO is ${place}: ${advice}`);
     if (notes) {
       const instead = "unset MONITOR_NOTES, or let MONITOR_TO name a folder";
-      throw new NotRecorded("notes", `notes go to a file, but MONITOR_TO is the port ${place}: ${instead}`);
+      throw new NotRecorded("notes", `notes go to a file, but MONITOR_TO is the connection ${place}: ${instead}`);
     }
-    return Recorder.toPort(process, Number(port[1]));
+    if (again) {
+      const only = "only a folder has the recording of an earlier incarnation";
+      throw new NotRecorded("again", `MONITOR_TO is the connection ${place}, and ${only}`);
+    }
+    return Recorder.#toAddress(process, address, PATIENCE_SECONDS);
   }
 
   static #over(process, { out, notes }, opened) {
@@ -604,16 +652,20 @@ class Awaited {
 /** The files of a stream and, if it has some, of its notes. What it replaces has no notes any more. */
 function openedFiles(file, { notes = false, replace = false }) {
   const out = openedFile(file, replace);
-  const beside = file.slice(0, -ENDING.length) + NOTES_ENDING;
   try {
-    if (notes) return { out, notes: openedFile(beside, replace) };
-    if (replace && file.endsWith(ENDING)) fs.rmSync(beside, { force: true });
+    if (notes) return { out, notes: openedFile(notesOf(file), replace) };
+    if (replace && file.endsWith(ENDING)) fs.rmSync(notesOf(file), { force: true });
     return { out };
   } catch (error) {
     out.close();
     if (!replace) fs.rmSync(file);
     throw error;
   }
+}
+
+/** The file of the notes of a stream. */
+function notesOf(file) {
+  return file.slice(0, -ENDING.length) + NOTES_ENDING;
 }
 
 function openedFile(file, replace) {
@@ -637,6 +689,89 @@ function besideOf(first, name, { replace }) {
     throw already(systemError("open", "EEXIST"));
   }
   return file;
+}
+
+/** The name of this incarnation of a process. */
+function incarnationOf(process, number) {
+  return number === 1 ? process : `${process}_${number}`;
+}
+
+/** The file of this incarnation, if that of the first one is given. */
+function pathOf(first, number) {
+  const { dir, name, ext } = path.parse(first);
+  return path.join(dir, incarnationOf(name, number) + ext);
+}
+
+/** The id of the message by which an incarnation comes after the one before. */
+function endingOf(process) {
+  return `${process}-ended`;
+}
+
+/** Whether there is something by this name, be it a link that leads nowhere. */
+function isThere(file) {
+  return fs.lstatSync(file, { throwIfNoEntry: false }) !== undefined;
+}
+
+/**
+ * Where a file stands until it gets its name. A process that was killed before may have had the number of this one.
+ */
+function newPart(file) {
+  let part = `${file}.${processId}.part`;
+  for (let number = 2; isThere(part); number++) part = `${file}.${processId}-${number}.part`;
+  return part;
+}
+
+/**
+ * Refuses what is started while an earlier incarnation still runs: Node has no locks, but /proc tells which process of
+ * this machine has its file open for writing. What belongs to another user isn't told.
+ */
+function refuseRunning(process, file) {
+  const own = fs.statSync(file, { bigint: true, throwIfNoEntry: false });
+  if (!isThere("/proc/self/fd")) {
+    throw new NotRecorded("again", "this system doesn't tell by /proc whether an earlier incarnation has ended");
+  }
+  const isWriter = (descriptor) => {
+    const [link, there] = [fs.lstatSync(descriptor), fs.statSync(descriptor, { bigint: true })];
+    return (link.mode & 0o200) !== 0 && there.ino === own?.ino && there.dev === own?.dev;
+  };
+  for (const number of fs.readdirSync("/proc").filter((name) => /^[0-9]+$/.test(name))) {
+    const folder = `/proc/${number}/fd`;
+    if (unlessGone(() => fs.readdirSync(folder), []).some((name) => unlessGone(() => isWriter(`${folder}/${name}`)))) {
+      const advice = "what is started beside it is no later incarnation, but a process of its own";
+      throw new NotRecorded("running", `${process} still runs and records to ${file}: ${advice}`);
+    }
+  }
+}
+
+/** What the work gives, or this if the system refuses, as for a process that has just ended. */
+function unlessGone(work, otherwise = false) {
+  try {
+    return work();
+  } catch (error) {
+    if (error.syscall) return otherwise;
+    throw error;
+  }
+}
+
+/** The host and the port, or the path of the socket, that MONITOR_TO names; undefined for a folder. */
+function addressOf(place) {
+  if (place === "") throw new NotRecorded("place", `MONITOR_TO isn't set: it names ${PLACES}`);
+  if (place.startsWith(SOCKET)) {
+    const file = place.slice(SOCKET.length);
+    if (!file.startsWith("/") || Buffer.byteLength(file) > SOCKET_BYTE_LIMIT) {
+      const wanted = `the path of a socket begins with / and has at most ${SOCKET_BYTE_LIMIT} bytes`;
+      throw new NotRecorded("place", `MONITOR_TO is ${place}, and ${wanted}`);
+    }
+    return { path: file };
+  }
+  if (!place.includes(":") || /[/\\]/.test(place)) return undefined;
+  const [, address, name, digits] = PORT.exec(place) ?? [];
+  if (digits === undefined || digits < 1 || digits > PORT_LIMIT) {
+    const folders = "a folder with a colon has a slash too, as ./a:b";
+    throw new NotRecorded("place", `MONITOR_TO is ${place}, and names ${PLACES}; ${folders}`);
+  }
+  const host = address ?? name;
+  return { host: ["", "localhost"].includes(host) ? HERE : host, port: Number(digits) };
 }
 
 /** Whether what MONITOR_NOTES says is that events have notes. */
@@ -722,8 +857,8 @@ class Descriptor {
 }
 
 /**
- * A connection to a port of this machine. Node's sockets write when the event loop comes round, which it doesn't before
- * a call returns; so a thread of its own has the socket, and a call waits until that thread has written.
+ * A connection to a port or a socket. Node's sockets write when the event loop comes round, which it doesn't before a
+ * call returns; so a thread of its own has the socket, and a call waits until that thread has written.
  */
 class Connection {
   #worker;
@@ -735,8 +870,8 @@ class Connection {
   }
 
   /** The same as `to`, but the whole thread waits. */
-  static now(port, seconds) {
-    const { worker, shared } = Connection.#begun(port, seconds);
+  static now(address, seconds) {
+    const { worker, shared } = Connection.#begun(address, seconds);
     const connection = new Connection(worker, shared);
     worker.unref();
     Atomics.wait(connection.#shared, 0, 0);
@@ -745,15 +880,15 @@ class Connection {
     return connection;
   }
 
-  static #begun(port, seconds) {
+  static #begun(address, seconds) {
     const shared = new SharedArrayBuffer(8 + CODE_BYTES);
     const program = [connectThere, serveThere, answerThere, "connectThere(performance.now());"].join("\n");
-    const worker = new Worker(program, { eval: true, execArgv: [], workerData: { port, seconds, shared } });
+    const worker = new Worker(program, { eval: true, execArgv: [], workerData: { address, seconds, shared } });
     return { worker, shared };
   }
 
-  static to(port, seconds) {
-    const { worker, shared } = Connection.#begun(port, seconds);
+  static to(address, seconds) {
+    const { worker, shared } = Connection.#begun(address, seconds);
     return new Promise((resolve, reject) => {
       worker.once("error", reject);
       worker.once("message", (code) => {
@@ -791,10 +926,11 @@ class Connection {
 function connectThere(begin) {
   const net = require("node:net");
   const { parentPort, workerData } = require("node:worker_threads");
-  const { port, seconds } = workerData;
-  const socket = net.connect({ host: "127.0.0.1", port, noDelay: true, allowHalfOpen: true });
+  const { address, seconds } = workerData;
+  const socket = net.connect({ ...address, noDelay: true, allowHalfOpen: true });
   socket.once("error", (error) => {
-    const isOver = error.code !== "ECONNREFUSED" || performance.now() >= begin + 1000 * seconds;
+    const comesLater = error.code === "ECONNREFUSED" || (error.code === "ENOENT" && address.path !== undefined);
+    const isOver = !comesLater || performance.now() >= begin + 1000 * seconds;
     if (isOver) {
       answerThere(error);
       parentPort.postMessage(error.code ?? "EIO");
@@ -804,7 +940,8 @@ function connectThere(begin) {
   });
   socket.once("connect", () => {
     // A connection to a port that nobody has bound can come to be with itself.
-    if (socket.localPort === socket.remotePort) {
+    const isOwn = socket.localPort === socket.remotePort && socket.localAddress === socket.remoteAddress;
+    if (isOwn && address.path === undefined) {
       socket.destroy(Object.assign(new Error("nobody listens"), { code: "ECONNREFUSED" }));
     } else {
       serveThere(socket.removeAllListeners("error"));

@@ -41,8 +41,12 @@ export type Reason =
   | "no-place"
   /** What is to be joined is no strand that has ended. */
   | "not-ended"
-  /** MONITOR_TO isn't set, or is a port that there isn't. */
+  /** MONITOR_TO isn't set, or names no folder, port or socket that there can be. */
   | "place"
+  /** An earlier incarnation of the process still runs. */
+  | "running"
+  /** No earlier incarnation can be told, as of a connection, of a file that is replaced, or on this system. */
+  | "again"
   /** There is no place for notes, as at a port, or MONITOR_NOTES is neither 1 nor 0. */
   | "notes"
   /** What stands where a note may is none, as { note: "a text" }. */
@@ -104,9 +108,14 @@ export class Recorder {
   /**
    * Records to a new file. One that is there already is an error with the code EEXIST; with `replace` it is lost, with
    * its notes. With `notes` each event gets a note, in a file beside: that of `left.stream` is `left.notes.jsonl`. The
-   * path has to end with `.stream` then. docs/RECORDING.md has the format.
+   * path has to end with `.stream` then. docs/RECORDING.md has the format. With `again` a further incarnation is
+   * recorded, as of `left` and `left.stream` the second one is `left_2` in `left_2.stream`.
    */
-  static toFile(process: string, path: string, options?: { notes?: boolean; replace?: boolean }): Recorder;
+  static toFile(
+    process: string,
+    path: string,
+    options?: { again?: boolean; notes?: boolean; replace?: boolean },
+  ): Recorder;
 
   /**
    * Records to `monitor serve` on a port of this machine, 1 to 65,534, which may listen up to ten seconds later, or as
@@ -117,11 +126,13 @@ export class Recorder {
 
   /**
    * Records to where MONITOR_TO in the environment says, so that no code changes between a test and a live session: to
-   * a new file NAME.stream in a folder of this name, which is made if there is none; or to `monitor serve` on a port of
-   * this machine, of :7411 or localhost:7411. With MONITOR_NOTES=1 each event gets a note beside the file; a port has no
-   * place for notes, so the two together are refused.
+   * a new file NAME.stream in a folder of this name, which is made if there is none; or to `monitor serve`, on a port
+   * of this machine, of :7411 or localhost:7411, on one of another machine, of host:7411 or [fe80::1]:7411, or by a
+   * Unix socket, of unix:/run/monitor.sock. With MONITOR_NOTES=1 each event gets a note beside the file. A connection
+   * has no place for notes, and keeps no earlier incarnation, so `again` and notes are refused with one. What has a
+   * colon and no slash is no folder.
    */
-  static fromEnvironment(process: string, options?: { replace?: boolean }): Promise<Recorder>;
+  static fromEnvironment(process: string, options?: { again?: boolean; replace?: boolean }): Promise<Recorder>;
 
   /** The recorder with which this code was called by `within` or `strand`, or undefined. */
   static current(): Recorder | undefined;

@@ -28,6 +28,8 @@ export async function takes(descriptor: number): Promise<Reason | undefined> {
   left.join(strand, { all });
   (await Recorder.toPort("right", 7411, { seconds: 3 })).end();
   (await Recorder.fromEnvironment("third")).end();
+  Recorder.toFile("fourth", "fourth.stream", { again: true }).end();
+  (await Recorder.fromEnvironment("fifth", { again: true })).end();
   new Recorder("other", descriptor).end();
   return undefined;
 }

@@ -14,6 +14,11 @@ const calls = {
   file: (process, path) => begin(process, Recorder.toFile(textOf(process), textOf(path))),
   noted: (process, path) => begin(process, Recorder.toFile(textOf(process), textOf(path), { notes: true })),
   replaced: (process, path) => begin(process, Recorder.toFile(textOf(process), textOf(path), { replace: true })),
+  again: (process, path) => begin(process, Recorder.toFile(textOf(process), textOf(path), { again: true })),
+  "noted-again": (process, path) =>
+    begin(process, Recorder.toFile(textOf(process), textOf(path), { again: true, notes: true })),
+  place: (process, place) => callAt(process, place),
+  "again-at": (process, place) => callAt(process, place, { again: true }),
   port: async (process, port, seconds) =>
     begin(process, await Recorder.toPort(textOf(process), Number(port), { seconds: Number(seconds) })),
   strand: (name) => void recorders.set(name, recorder.strand(textOf(name))),
@@ -50,6 +55,12 @@ function begin(process, made) {
   recorder = made;
   recorders = new Map([[process, made]]);
   [locks, queues] = [new Map(), new Map()];
+}
+
+/** Makes a recorder to this place. */
+async function callAt(name, place, options) {
+  process.env.MONITOR_TO = textOf(place);
+  begin(name, await Recorder.fromEnvironment(textOf(name), options));
 }
 
 /** Makes the call by the recorder of a strand. */

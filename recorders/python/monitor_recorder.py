@@ -51,6 +51,8 @@ LEAST_VALUE, GREATEST_VALUE = -(2**63), 2**63 - 1
 NAME = re.compile(r"[A-Za-z_][A-Za-z0-9_]*")
 RESERVED = frozenset(["and", "or", "not", "true", "false"])
 CONNECT_SECONDS = 10.0
+# So long a machine may take to say whether anybody listens, if the time for which that is waited for is less.
+ANSWER_SECONDS = 1.0
 # So many letters of a wrong value are shown.
 SHOWN = 60
 ENDING, NOTES_ENDING = ".stream", ".notes.jsonl"
@@ -60,8 +62,14 @@ NOTE_BYTE_LIMIT = 1_024
 ESCAPED = re.compile("[\x7f-\x9f\u2028\u2029]")
 SURROGATE = re.compile("[\ud800-\udfff]")
 PLACE, WITH_NOTES = "MONITOR_TO", "MONITOR_NOTES"
-PORT = re.compile(r"(?:localhost|127\.0\.0\.1)?:([0-9]{1,5})")
+# A port: of this machine, or of another one by its name or address. One of IPv6 stands in brackets.
+PORT = re.compile(r"\A(?:\[([0-9A-Fa-f:.]+(?:%[A-Za-z0-9._-]+)?)\]|([A-Za-z0-9._-]*)):([0-9]{1,5})")
 PORT_LIMIT = 65_534
+SOCKET, SOCKET_BYTE_LIMIT = "unix:", 107
+HERE, OWN_HOSTS = "127.0.0.1", ("", "localhost")
+# What a connection ends with while nobody listens at its place.
+NOBODY = (ConnectionRefusedError, FileNotFoundError)
+PLACES = f"a folder, a port as :7411, host:7411 or [::1]:7411, from 1 to {PORT_LIMIT}, or a socket as unix:/run/a.sock"
 OPEN, CLOSED, BROKEN = "open", "closed", "broken off, since a line could not be written"
 CURRENT = contextvars.ContextVar("monitor_recorder", default=None)
 
@@ -127,7 +135,7 @@ class Recorder:
         and on a system without POSIX's locks.
         """
         if replace and again:
-            raise NotRecorded("a file that is replaced has no recording of an earlier incarnation")
+            raise NotRecorded("again: a file that is replaced has no recording of an earlier incarnation")
 
         def opened():
             return opened_files(path, notes, replace)
@@ -140,7 +148,8 @@ class Recorder:
             checked_ending(first)
         if again:
             if fcntl is None:
-                raise NotRecorded("this system has no locks by which an earlier incarnation is seen to have ended")
+                raise NotRecorded("again: this system has no locks by which it is seen that an earlier incarnation has "
+                                  "ended")
             return cls._incarnation(process, path, variables, notes, opened_for)
         return cls._over(process, variables, opened, opened_for)
 
@@ -150,7 +159,7 @@ class Recorder:
         if number > 1:
             refuse_running(incarnation_of(process, number - 1), path_of(path, number - 1))
         # It gets its name once the receipt stands in it, so that it has that whenever the process is killed.
-        part = f"{path_of(path, number)}.{os.getpid()}.part"
+        part = new_part(path_of(path, number))
         recorder = None
 
         def opened():
@@ -175,29 +184,34 @@ class Recorder:
     def to_port(cls, process, port, variables=None, seconds=CONNECT_SECONDS):
         """Records to `monitor serve` on a port of this machine. If nobody listens there yet, it is tried again until
         these seconds have passed, and then is an OSError. A call waits while the monitor doesn't read."""
-        return cls._over(process, variables, lambda: (connection_to(port, seconds), None),
-                         lambda _name: (connection_to(port, seconds), None))
+        return cls._to_address(process, (HERE, port), f"the port is {port}", variables, seconds)
 
     @classmethod
-    def from_environment(cls, process, variables=None, replace=False):
+    def _to_address(cls, process, address, said, variables, seconds):
+        return cls._over(process, variables, lambda: (connection_to(address, said, seconds), None),
+                         lambda _name: (connection_to(address, said, seconds), None))
+
+    @classmethod
+    def from_environment(cls, process, variables=None, replace=False, again=False):
         """Records to where MONITOR_TO in the environment says, so that no code changes between a test and a live
         session: to a new file NAME.stream in a folder of this name, which is made if there is none; or to `monitor
-        serve` on a port of this machine, of :7411 or localhost:7411. With MONITOR_NOTES=1 each event gets a note beside
-        the file; a port has no place for notes, so the two together are refused."""
+        serve`, on a port of this machine, of :7411 or localhost:7411, on one of another machine, of host:7411 or
+        [fe80::1]:7411, or by a Unix socket, of unix:/run/monitor.sock. With MONITOR_NOTES=1 each event gets a note
+        beside the file. A connection has no place for notes, and keeps no earlier incarnation, so `again` and notes are
+        refused with one. What has a colon and no slash is no folder."""
         checked_name("process", process)
         place, notes = os.environ.get(PLACE, ""), has_notes(os.environ.get(WITH_NOTES, ""))
-        if place == "":
-            raise NotRecorded(f"{PLACE} isn't set: it names a folder, or a port as :7411")
-        port = PORT.fullmatch(place)
-        if port is None:
+        address = address_of(place)
+        if address is None:
             os.makedirs(place, exist_ok=True)
-            return cls.to_file(process, os.path.join(place, f"{process}.stream"), variables, replace, notes=notes)
-        if not 1 <= int(port[1]) <= PORT_LIMIT:
-            raise NotRecorded(f"{PLACE} is {place}, and a port is a number from 1 to {PORT_LIMIT}")
+            return cls.to_file(process, os.path.join(place, f"{process}.stream"), variables, replace, again, notes)
         if notes:
-            raise NotRecorded(f"{WITH_NOTES} is 1, and notes go to a file beside the stream, but {PLACE} is the port "
-                              f"{place}: unset {WITH_NOTES}, or let {PLACE} name a folder")
-        return cls.to_port(process, int(port[1]), variables)
+            raise NotRecorded(f"{WITH_NOTES} is 1, and notes go to a file beside the stream, but {PLACE} is the "
+                              f"connection {place}: unset {WITH_NOTES}, or let {PLACE} name a folder")
+        if again:
+            raise NotRecorded(f"again: {PLACE} is the connection {place}, and only a folder has the recording of an "
+                              "earlier incarnation")
+        return cls._to_address(process, address, f"{PLACE} is {place}", variables, CONNECT_SECONDS)
 
     @classmethod
     def _over(cls, process, variables, opened, opened_for):
@@ -693,6 +707,14 @@ def ending_of(process):
     return f"{process}-ended"
 
 
+def new_part(path):
+    """A path at which the file stands until it gets its name. A process that was killed before may have had this one's
+    number."""
+    number = os.getpid()
+    parts = (f"{path}.{number}{more}.part" for more in itertools.chain([""], (f"-{n}" for n in itertools.count(2))))
+    return next(part for part in parts if not os.path.lexists(part))
+
+
 def locked_file(path):
     """A new file, with a lock that this process has on it for as long as it runs, if its folder can have locks."""
     out = open(path, "xb", buffering=0)
@@ -752,19 +774,65 @@ def checked_value(name, value):
     return number
 
 
-def connection_to(port, seconds):
-    """A connection to a port of this machine, on which nobody may listen yet."""
+# Connections
+
+def address_of(place):
+    """The host and the port, or the path of the socket, that MONITOR_TO names; None for a folder."""
+    if place == "":
+        raise NotRecorded(f"{PLACE} isn't set: it names {PLACES}")
+    if place.startswith(SOCKET):
+        path = place[len(SOCKET):]
+        if not path.startswith("/") or len(os.fsencode(path)) > SOCKET_BYTE_LIMIT:
+            raise NotRecorded(f"{PLACE} is {place}, and the path of a socket begins with / and has at most "
+                              f"{SOCKET_BYTE_LIMIT} bytes")
+        if not hasattr(socket, "AF_UNIX"):
+            raise NotRecorded(f"{PLACE} is {place}, and this system has no sockets with a path: let it name a port")
+        return path
+    if ":" not in place or "/" in place or "\\" in place:
+        return None
+    found = PORT.fullmatch(place)
+    if found is None or not 1 <= int(found[3]) <= PORT_LIMIT:
+        raise NotRecorded(f"{PLACE} is {place}, and names {PLACES}; a folder with a colon has a slash too, as ./a:b")
+    host = found[1] or found[2]
+    return HERE if host in OWN_HOSTS else host, int(found[3])
+
+
+def connection_to(address, said, seconds):
+    """A connection to a port, given as the host and the number, or to a socket, given as its path. Nobody may listen
+    there yet. An error begins with what is said of the place."""
     deadline = time.monotonic() + seconds
     while True:
         try:
-            connection = socket.create_connection(("127.0.0.1", port))
-            # A connection to a port that nobody has bound can come to be with itself.
-            if connection.getsockname() != connection.getpeername():
-                connection.setsockopt(socket.IPPROTO_TCP, socket.TCP_NODELAY, 1)
-                return connection
-            connection.close()
-            raise ConnectionRefusedError(f"nobody listens on port {port}")
-        except ConnectionRefusedError:
+            return connection_now(address, max(deadline - time.monotonic(), ANSWER_SECONDS))
+        except NOBODY as error:
             if time.monotonic() >= deadline:
-                raise
+                more = f", for {seconds:g} seconds: does monitor serve listen there?"
+                raise not_connected(error, said, more) from None
             time.sleep(0.05)
+        except OSError as error:
+            raise not_connected(error, said, "") from None
+
+
+def not_connected(error, said, more):
+    """The same error, in words that say where there is no connection. One of a time that passed may lack its number."""
+    words = f"{said}, and there is no connection: {error.strerror or error}{more}"
+    return type(error)(error.errno or errno.ETIMEDOUT, words)
+
+
+def connection_now(address, seconds):
+    if isinstance(address, str):
+        connection = socket.socket(socket.AF_UNIX)
+        try:
+            connection.connect(address)
+        except BaseException:
+            connection.close()
+            raise
+        return connection
+    connection = socket.create_connection(address, timeout=seconds)
+    # A connection to a port that nobody has bound can come to be with itself.
+    if connection.getsockname() == connection.getpeername():
+        connection.close()
+        raise ConnectionRefusedError(errno.ECONNREFUSED, f"nobody listens on port {address[1]}")
+    connection.settimeout(None)
+    connection.setsockopt(socket.IPPROTO_TCP, socket.TCP_NODELAY, 1)
+    return connection

@@ -2,6 +2,7 @@
 import collections
 import contextlib
 import json
+import os
 import signal
 import sys
 import threading
@@ -14,7 +15,8 @@ REFUSALS = {"process-name": "no name of a process", "variable-name": "no name of
             "value": "must be a whole", "variables": "16 variables", "events": "10000 events", "id": "the id",
             "id-twice": "before", "ended": "is closed", "broken": "is broken off",
             "name-twice": "another process of this recording", "processes": "16 processes",
-            "not-ended": "no strand that has ended"}
+            "not-ended": "no strand that has ended", "running": "still runs", "again": "again: ",
+            "place": "MONITOR_TO is"}
 
 
 def text_of(word):
@@ -41,6 +43,20 @@ class Player:
 
     def replaced(self, process, path):
         self.begin(process, Recorder.to_file(text_of(process), text_of(path), replace=True))
+
+    def again(self, process, path):
+        self.begin(process, Recorder.to_file(text_of(process), text_of(path), again=True))
+
+    def noted_again(self, process, path):
+        self.begin(process, Recorder.to_file(text_of(process), text_of(path), again=True, notes=True))
+
+    def place(self, process, place):
+        os.environ["MONITOR_TO"] = text_of(place)
+        self.begin(process, Recorder.from_environment(text_of(process)))
+
+    def again_at(self, process, place):
+        os.environ["MONITOR_TO"] = text_of(place)
+        self.begin(process, Recorder.from_environment(text_of(process), again=True))
 
     def port(self, process, port, seconds):
         self.begin(process, Recorder.to_port(text_of(process), int(port), seconds=float(seconds)))

@@ -549,8 +549,9 @@ class Ports(Case):
         return bound, bound.getsockname()[1]
 
     def test_nobody_listens(self):
-        with self.assertRaises(ConnectionRefusedError):
-            Recorder.to_port("left", self.silent()[1], seconds=0.1)
+        port = self.silent()[1]
+        with self.assertRaisesRegex(ConnectionRefusedError, f"the port is {port}, and there is no connection: "):
+            Recorder.to_port("left", port, seconds=0.1)
 
     def at(self, place, name="left"):
         """A recorder that is made with this in the environment, or with nothing."""
@@ -574,6 +575,18 @@ class Ports(Case):
             with connection:
                 recorder.close()
                 self.assertEqual(connection.makefile("rb").read(), b'{"process":"left"}\n{"end":true}\n')
+
+    def test_nobody_listens_at_a_place_of_the_environment(self):
+        there_is_none = "unix:" + os.path.join(os.path.dirname(self.path), "none")
+        with unittest.mock.patch.object(monitor_recorder, "CONNECT_SECONDS", 0.1):
+            for place, kind in ((f":{self.silent()[1]}", ConnectionRefusedError), (there_is_none, FileNotFoundError)):
+                with self.assertRaises(kind) as raised:
+                    self.at(place)
+                self.assertIn(f"MONITOR_TO is {place}, and there is no connection: ", str(raised.exception))
+                self.assertTrue(str(raised.exception).endswith(", for 0.1 seconds: does monitor serve listen there?"))
+            with unittest.mock.patch.object(socket, "create_connection", side_effect=socket.timeout("timed out")):
+                with self.assertRaisesRegex(OSError, "MONITOR_TO is host:1, and there is no connection: timed out$"):
+                    self.at("host:1")
 
     def test_no_place_in_the_environment(self):
         for place in (None, "", ":0", ":65535", "localhost:99999"):
@@ -655,8 +668,8 @@ class Notes(StrandCase):
                 with Recorder.from_environment("left", replace=True) as left:
                     left.event()
             self.assertEqual(sorted(os.listdir(place)), ["left.notes.jsonl"] * (wanted == "1") + ["left.stream"])
-        for wanted, at, text in (("1", ":7411", "MONITOR_TO is the port :7411"), ("yes", place, "MONITOR_NOTES is 'yes'"),
-                                 ("yes", ":7411", "MONITOR_NOTES is 'yes'")):
+        for wanted, at, text in (("1", ":7411", "MONITOR_TO is the connection :7411"),
+                                 ("yes", place, "MONITOR_NOTES is 'yes'"), ("yes", ":7411", "MONITOR_NOTES is 'yes'")):
             with mock.patch.dict(os.environ, {"MONITOR_TO": at, "MONITOR_NOTES": wanted}):
                 with self.assertRaisesRegex(NotRecorded, text):
                     Recorder.from_environment("other")

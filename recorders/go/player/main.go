@@ -41,6 +41,7 @@ var refusals = []struct {
 	{record.ErrVariables, "variables"}, {record.ErrEvents, "events"}, {record.ErrID, "id"},
 	{record.ErrIDTwice, "id-twice"}, {record.ErrEnded, "ended"}, {record.ErrBroken, "broken"},
 	{record.ErrNameTwice, "name-twice"}, {record.ErrProcesses, "processes"}, {record.ErrNotEnded, "not-ended"},
+	{record.ErrRunning, "running"}, {record.ErrAgain, "again"}, {record.ErrPlace, "place"},
 }
 
 func main() {
@@ -79,6 +80,12 @@ func makeCall(call string, words []string) (given string, err error) {
 		err = openFile(words[0], words[1], record.Options{Notes: true})
 	case "replaced":
 		err = openFile(words[0], words[1], record.Options{Replace: true})
+	case "again":
+		err = openFile(words[0], words[1], record.Options{Again: true})
+	case "noted-again":
+		err = openFile(words[0], words[1], record.Options{Again: true, Notes: true})
+	case "place", "again-at":
+		err = openPlace(textOf(words[0]), textOf(words[1]), record.Options{Again: call == "again-at"})
 	case "note":
 		return callNoted(words[0], words[1], words[2:])
 	case "strand":
@@ -128,6 +135,13 @@ func openPort(process string, port int, seconds string) (err error) {
 	ctx, cancel := context.WithTimeout(context.Background(), patience)
 	defer cancel()
 	recorder, err = record.ToPort(ctx, process, port)
+	recorders = map[string]*record.Recorder{process: recorder}
+	return err
+}
+
+func openPlace(process, place string, options record.Options) (err error) {
+	os.Setenv("MONITOR_TO", place)
+	recorder, err = options.FromEnvironment(context.Background(), process)
 	recorders = map[string]*record.Recorder{process: recorder}
 	return err
 }

@@ -10,12 +10,21 @@ import java.net.ConnectException;
 import java.net.InetAddress;
 import java.net.InetSocketAddress;
 import java.net.Socket;
+import java.net.StandardProtocolFamily;
+import java.net.UnixDomainSocketAddress;
+import java.nio.ByteBuffer;
 import java.nio.CharBuffer;
+import java.nio.channels.FileChannel;
+import java.nio.channels.OverlappingFileLockException;
+import java.nio.channels.SocketChannel;
 import java.nio.charset.CharacterCodingException;
 import java.nio.charset.StandardCharsets;
 import java.nio.file.FileAlreadyExistsException;
 import java.nio.file.Files;
+import java.nio.file.LinkOption;
 import java.nio.file.Path;
+import java.nio.file.StandardCopyOption;
+import java.nio.file.StandardOpenOption;
 import java.time.Duration;
 import java.time.Instant;
 import java.util.ArrayList;
@@ -92,8 +101,17 @@ public final class Recorder implements AutoCloseable {
     private static final Set<String> RESERVED = Set.of("and", "or", "not", "true", "false");
     private static final Duration PATIENCE = Duration.ofSeconds(10);
     private static final long PAUSE_MILLISECONDS = 50;
-    private static final Pattern PORT = Pattern.compile("(?:localhost|127\\.0\\.0\\.1)?:([0-9]{1,5})");
+    /** So long a machine may take to say whether anybody listens, if the time for which that is waited for is less. */
+    private static final long ANSWER_MILLISECONDS = 1_000;
+    /** A port: of this machine, or of another one by its name or address. One of IPv6 stands in brackets. */
+    private static final Pattern PORT = Pattern.compile(
+            "(?:\\[([0-9A-Fa-f:.]+(?:%[A-Za-z0-9._-]+)?)\\]|([A-Za-z0-9._-]*)):([0-9]{1,5})");
     private static final int PORT_LIMIT = 65_534;
+    private static final String SOCKET = "unix:";
+    private static final int SOCKET_BYTE_LIMIT = 107;
+    private static final String HERE = "127.0.0.1";
+    private static final String PLACES = "a folder, a port as :7411, host:7411 or [::1]:7411, from 1 to " + PORT_LIMIT
+            + ", or a socket as unix:/run/a.sock";
     private static final String ENDING = ".stream";
     private static final String NOTES_ENDING = ".notes.jsonl";
     private static final ThreadLocal<Recorder> CURRENT = new ThreadLocal<>();
@@ -107,7 +125,15 @@ public final class Recorder implements AutoCloseable {
          */
         NOTES,
         /** A file that is there already is lost, with its notes. */
-        REPLACE
+        REPLACE,
+        /**
+         * A file that is there is what the process recorded before it was killed and started again. Then a further
+         * incarnation is recorded, as a process of its own and to a file beside: of {@code left} and
+         * {@code left.stream} the second one is {@code left_2} in {@code left_2.stream}. Its first event receives the
+         * message {@code left-ended}, by which it comes after all that the one before did; monitor_mend adds the send.
+         * It is refused while the one before still runs.
+         */
+        AGAIN
     }
 
     /** Why a call was refused. */
@@ -136,8 +162,12 @@ public final class Recorder implements AutoCloseable {
         NO_PLACE,
         /** What is to be joined is no strand that has ended. */
         NOT_ENDED,
-        /** MONITOR_TO isn't set, or is a port that there isn't. */
+        /** MONITOR_TO isn't set, or names no folder, port or socket that there can be. */
         PLACE,
+        /** An earlier incarnation of the process still runs. */
+        RUNNING,
+        /** No earlier incarnation can be told, as of a connection or of a file that is replaced. */
+        AGAIN,
         /** There is no place for notes, as at a port, or MONITOR_NOTES is neither 1 nor 0. */
         NOTES
     }
@@ -234,9 +264,103 @@ public final class Recorder implements AutoCloseable {
             throw refused(Reason.NOTES, path + " doesn't end with " + ENDING + ": notes of left" + ENDING
                     + " are in left" + NOTES_ENDING);
         }
-        Recorder recorder = over(process, newFiles(first, all), null);
+        Recorder recorder = all.contains(Option.AGAIN) ? incarnation(process, first, all)
+                : over(process, newFiles(first, all), null);
         recorder.family.place = name -> newFiles(checkedBeside(first, name, all), all);
         return recorder;
+    }
+
+    /** Records to the first file of the process that isn't there yet. */
+    private static Recorder incarnation(String process, Path first, Set<Option> options) throws IOException {
+        if (options.contains(Option.REPLACE)) {
+            throw refused(Reason.AGAIN, "a file that is replaced has no recording of an earlier incarnation");
+        }
+        int number = 1;
+        while (Files.exists(pathOf(first, number), LinkOption.NOFOLLOW_LINKS)) {
+            number++;
+        }
+        String before = incarnationOf(process, number - 1);
+        if (number > 1) {
+            refuseRunning(before, pathOf(first, number - 1));
+        }
+        String name = checkedProcess(incarnationOf(process, number));
+        Path path = pathOf(first, number);
+        // It gets its name once the receipt stands in it, so that it has that whenever the process is killed.
+        Path part = newPart(path);
+        Recorder recorder = null;
+        try {
+            recorder = over(name, inPart(path, part, options), null);
+            if (number > 1) {
+                recorder.receive(before + "-ended");
+            }
+            Files.move(part, path, StandardCopyOption.ATOMIC_MOVE);
+            return recorder;
+        } catch (Throwable error) {
+            if (recorder != null) {
+                recorder.closeOut();
+            }
+            Files.deleteIfExists(part);
+            throw error;
+        }
+    }
+
+    /**
+     * A new file with a lock that this process has on it for as long as it runs, if its folder can have locks. Notes
+     * that are there are of an incarnation that was killed before its stream had its name.
+     */
+    private static Opened inPart(Path path, Path part, Set<Option> options) throws IOException {
+        FileOutputStream out = (FileOutputStream) newFile(part, false);
+        try {
+            try {
+                out.getChannel().tryLock();
+            } catch (IOException error) {
+                // without a lock it isn't seen that this process runs
+            }
+            String name = path.getFileName().toString();
+            return new Opened(out, !options.contains(Option.NOTES) ? null : newFile(path.resolveSibling(
+                    name.substring(0, name.length() - ENDING.length()) + NOTES_ENDING), true));
+        } catch (Throwable error) {
+            out.close();
+            throw error;
+        }
+    }
+
+    /** Refuses what is started while the earlier incarnation with this file still runs, if a lock shows that. */
+    private static void refuseRunning(String process, Path path) throws IOException {
+        boolean isFree;
+        try (FileChannel channel = FileChannel.open(path, StandardOpenOption.READ)) {
+            isFree = channel.tryLock(0, Long.MAX_VALUE, true) != null;
+        } catch (OverlappingFileLockException error) {
+            isFree = false; // it is in this process
+        }
+        if (!isFree) {
+            throw refused(Reason.RUNNING, process + " still runs and records to " + path
+                    + ": what is started beside it is no later incarnation, but a process of its own");
+        }
+    }
+
+    private static String incarnationOf(String process, int number) {
+        return number == 1 ? process : process + "_" + number;
+    }
+
+    /** The file of this incarnation, if that of the first one is given. */
+    private static Path pathOf(Path first, int number) {
+        String name = first.getFileName().toString();
+        int dot = name.lastIndexOf('.');
+        int stem = dot > 0 ? dot : name.length();
+        return first.resolveSibling(incarnationOf(name.substring(0, stem), number) + name.substring(stem));
+    }
+
+    /**
+     * Where a file stands until it gets its name. A process that was killed before may have had the number of this one.
+     */
+    private static Path newPart(Path path) {
+        String begin = path.getFileName() + "." + ProcessHandle.current().pid();
+        Path part = path.resolveSibling(begin + ".part");
+        for (int number = 2; Files.exists(part, LinkOption.NOFOLLOW_LINKS); number++) {
+            part = path.resolveSibling(begin + "-" + number + ".part");
+        }
+        return part;
     }
 
     /** The file of a strand, in the folder of its process's file, which isn't replaced. */
@@ -300,8 +424,12 @@ public final class Recorder implements AutoCloseable {
 
     /** The same, with another time to wait for somebody who listens. */
     public static Recorder toPort(String process, int port, Duration patience) throws IOException {
+        return toAddress(process, new Address(HERE, port), patience);
+    }
+
+    private static Recorder toAddress(String process, Address address, Duration patience) throws IOException {
         checkedProcess(process);
-        Place place = name -> new Opened(connectionTo(port, patience).getOutputStream(), null);
+        Place place = name -> new Opened(connectionTo(address, patience), null);
         Recorder recorder = over(process, place.opened(process), null);
         recorder.family.place = place;
         return recorder;
@@ -310,8 +438,10 @@ public final class Recorder implements AutoCloseable {
     /**
      * Records to where MONITOR_TO in the environment says, so that no code changes between a test and a live session:
      * to a new file {@code NAME.stream} in a folder of this name, which is made if there is none; or to {@code monitor
-     * serve} on a port of this machine, of {@code :7411} or {@code localhost:7411}. With MONITOR_NOTES=1 each event gets
-     * a note beside the file; a port has no place for notes, so the two together are refused.
+     * serve}, on a port of this machine, of {@code :7411} or {@code localhost:7411}, on one of another machine, of
+     * {@code host:7411} or {@code [fe80::1]:7411}, or by a Unix socket, of {@code unix:/run/monitor.sock}. With
+     * MONITOR_NOTES=1 each event gets a note beside the file. A connection has no place for notes, and keeps no earlier
+     * incarnation, so both are refused with one. What has a colon and no slash is no folder.
      */
     public static Recorder fromEnvironment(String process, Option... options) throws IOException {
         String place = System.getenv().getOrDefault("MONITOR_TO", "");
@@ -330,20 +460,52 @@ public final class Recorder implements AutoCloseable {
     /** The same, of a place that is given. */
     public static Recorder toPlace(String process, String place, Option... options) throws IOException {
         checkedProcess(process);
+        Address address = addressOf(place);
+        if (address == null) {
+            Path folder = Files.createDirectories(Path.of(place));
+            return toFile(process, folder.resolve(process + ENDING), options);
+        }
+        if (List.of(options).contains(Option.NOTES)) {
+            throw refused(Reason.NOTES, "notes go to a file beside the stream, but MONITOR_TO is the connection "
+                    + place + ": unset MONITOR_NOTES, or let MONITOR_TO name a folder");
+        }
+        if (List.of(options).contains(Option.AGAIN)) {
+            throw refused(Reason.AGAIN, "MONITOR_TO is the connection " + place
+                    + ", and only a folder has the recording of an earlier incarnation");
+        }
+        return toAddress(process, address, PATIENCE);
+    }
+
+    /** Where {@code monitor serve} listens: on the port of a host, or by a socket with a path, which has port 0. */
+    private record Address(String host, int port) {
+        @Override
+        public String toString() {
+            return port == 0 ? host : host + ":" + port;
+        }
+    }
+
+    /** The port or the socket that MONITOR_TO names; null for a folder. */
+    private static Address addressOf(String place) {
+        if (place.startsWith(SOCKET)) {
+            String path = place.substring(SOCKET.length());
+            if (!path.startsWith("/") || path.getBytes(StandardCharsets.UTF_8).length > SOCKET_BYTE_LIMIT) {
+                throw refused(Reason.PLACE, "MONITOR_TO is " + place + ", and the path of a socket begins with / and "
+                        + "has at most " + SOCKET_BYTE_LIMIT + " bytes");
+            }
+            return new Address(path, 0);
+        }
+        boolean isFolder = !place.contains(":") || place.contains("/") || place.contains("\\");
+        if (!place.isEmpty() && isFolder) {
+            return null;
+        }
         Matcher matcher = PORT.matcher(place);
-        int port = matcher.matches() ? Integer.parseInt(matcher.group(1)) : 1;
-        if (place.isEmpty() || port < 1 || port > PORT_LIMIT) {
-            throw new NotRecordedException(Reason.PLACE, "MONITOR_TO is \"" + place
-                + "\", and names a folder, or a port from 1 to " + PORT_LIMIT + " as :7411");
+        int port = matcher.matches() ? Integer.parseInt(matcher.group(3)) : 0;
+        if (port < 1 || port > PORT_LIMIT) {
+            throw refused(Reason.PLACE, "MONITOR_TO is \"" + place + "\", and names " + PLACES
+                    + "; a folder with a colon has a slash too, as ./a:b");
         }
-        if (matcher.matches() && List.of(options).contains(Option.NOTES)) {
-            throw refused(Reason.NOTES, "notes go to a file beside the stream, but MONITOR_TO is the port " + place
-                    + ": unset MONITOR_NOTES, or let MONITOR_TO name a folder");
-        }
-        if (matcher.matches()) {
-            return toPort(process, port);
-        }
-        return toFile(process, Files.createDirectories(Path.of(place)).resolve(process + ENDING), options);
+        String host = matcher.group(1) != null ? matcher.group(1) : matcher.group(2);
+        return new Address(Set.of("", "localhost").contains(host) ? HERE : host, port);
     }
 
     private static Recorder over(String process, Opened opened, Family family) throws IOException {
@@ -826,39 +988,93 @@ public final class Recorder implements AutoCloseable {
         return new NotRecordedException(reason, message);
     }
 
-    /** A connection to a port of this machine, on which nobody may listen yet. */
-    private static Socket connectionTo(int port, Duration patience) throws IOException {
+    /** A connection to an address, where nobody may listen yet. */
+    private static OutputStream connectionTo(Address address, Duration patience) throws IOException {
         long begin = System.nanoTime();
         while (true) {
             try {
-                return connectionNow(port);
+                return address.port() == 0 ? new SocketOutput(address.host()) : connectionNow(address, patience);
             } catch (ConnectException error) {
                 if (System.nanoTime() - begin >= patience.toNanos()) {
-                    throw error;
+                    throw (IOException) new ConnectException("nobody listens at " + address).initCause(error);
                 }
             }
             try {
                 Thread.sleep(PAUSE_MILLISECONDS);
             } catch (InterruptedException error) {
                 Thread.currentThread().interrupt();
-                throw new InterruptedIOException("interrupted while nobody listens on port " + port);
+                throw new InterruptedIOException("interrupted while nobody listens at " + address);
             }
         }
     }
 
-    private static Socket connectionNow(int port) throws IOException {
+    private static OutputStream connectionNow(Address address, Duration patience) throws IOException {
         Socket socket = new Socket();
         try {
-            socket.connect(new InetSocketAddress(InetAddress.getByAddress(new byte[] {127, 0, 0, 1}), port));
+            int milliseconds = (int) Math.min(Math.max(patience.toMillis(), ANSWER_MILLISECONDS), Integer.MAX_VALUE);
+            socket.connect(new InetSocketAddress(InetAddress.getByName(address.host()), address.port()), milliseconds);
             // A connection to a port that nobody has bound can come to be with itself.
             if (socket.getLocalSocketAddress().equals(socket.getRemoteSocketAddress())) {
-                throw new ConnectException("nobody listens on port " + port);
+                throw new ConnectException("nobody listens at " + address);
             }
             socket.setTcpNoDelay(true);
-            return socket;
+            return socket.getOutputStream();
         } catch (IOException error) {
             socket.close();
             throw error;
+        }
+    }
+
+    /** A connection by a Unix socket. Its channel would be closed if a thread is interrupted that waits for it. */
+    private static final class SocketOutput extends OutputStream {
+        private final SocketChannel channel = SocketChannel.open(StandardProtocolFamily.UNIX);
+
+        SocketOutput(String path) throws IOException {
+            try {
+                channel.connect(UnixDomainSocketAddress.of(path));
+                channel.configureBlocking(false);
+            } catch (IOException error) {
+                channel.close();
+                if (Files.exists(Path.of(path)) && !"Connection refused".equals(error.getMessage())) {
+                    throw error;
+                }
+                // A socket that isn't there yet is as one at which nobody listens yet.
+                throw (IOException) new ConnectException("nobody listens at " + path).initCause(error);
+            }
+        }
+
+        @Override
+        public void write(int value) throws IOException {
+            write(new byte[] {(byte) value}, 0, 1);
+        }
+
+        @Override
+        public void write(byte[] bytes, int offset, int size) throws IOException {
+            ByteBuffer rest = ByteBuffer.wrap(bytes, offset, size);
+            boolean isInterrupted = Thread.interrupted();
+            try {
+                while (rest.hasRemaining()) {
+                    isInterrupted |= channel.write(rest) == 0 && isInterruptedMeanwhile(); // the monitor doesn't read
+                }
+            } finally {
+                if (isInterrupted) {
+                    Thread.currentThread().interrupt();
+                }
+            }
+        }
+
+        private static boolean isInterruptedMeanwhile() {
+            try {
+                Thread.sleep(1);
+                return false;
+            } catch (InterruptedException error) {
+                return true;
+            }
+        }
+
+        @Override
+        public void close() throws IOException {
+            channel.close();
         }
     }
 }

@@ -58,6 +58,9 @@ fn word_of(error: &Error) -> String {
         Error::NameTwice(_) => "refused name-twice",
         Error::Processes => "refused processes",
         Error::NotEnded(_) => "refused not-ended",
+        Error::Running(_) => "refused running",
+        Error::Again(_) => "refused again",
+        Error::Where(_) => "refused place",
         _ => "failed",
     }
     .to_owned()
@@ -94,14 +97,23 @@ fn make(
     words: &[&str],
 ) -> Option<Made> {
     match call {
-        "file" | "noted" | "replaced" => {
+        "file" | "noted" | "replaced" | "again" | "noted-again" => {
             *strands = Strands::default();
             let options = Options::new()
-                .notes(call == "noted")
-                .replace(call == "replaced");
+                .notes(call.starts_with("noted"))
+                .replace(call == "replaced")
+                .again(call.ends_with("again"));
             return Some(opened(
                 recorder,
                 options.to_file(&text_of(words[0]), text_of(words[1])),
+            ));
+        }
+        "place" | "again-at" => {
+            std::env::set_var("MONITOR_TO", text_of(words[1])); // no other thread runs
+            let options = Options::new().again(call == "again-at");
+            return Some(opened(
+                recorder,
+                options.from_environment(&text_of(words[0])),
             ));
         }
         "port" => {

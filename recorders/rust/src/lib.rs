@@ -47,7 +47,7 @@ use std::env;
 use std::fmt;
 use std::fs::{self, File, OpenOptions};
 use std::io::{self, Write};
-use std::net::{Ipv4Addr, TcpStream};
+use std::net::{Ipv4Addr, TcpStream, ToSocketAddrs};
 use std::ops::{Deref, DerefMut};
 use std::panic::Location;
 use std::path::{Path, PathBuf};
@@ -73,7 +73,11 @@ pub const NOTE_BYTE_LIMIT: usize = 1_024;
 const RESERVED: [&str; 5] = ["and", "or", "not", "true", "false"];
 const PATIENCE: Duration = Duration::from_secs(10);
 const PORT_LIMIT: u16 = 65_534;
+const SOCKET: &str = "unix:";
+const SOCKET_BYTE_LIMIT: usize = 107;
 const PAUSE: Duration = Duration::from_millis(50);
+/// So long a machine may take to say whether anybody listens, if the time for which that is waited for is less.
+const ANSWER: Duration = Duration::from_secs(1);
 const ENDING: &str = ".stream";
 const NOTES_ENDING: &str = ".notes.jsonl";
 
@@ -111,8 +115,13 @@ pub enum Error {
     NoPlace,
     /// What is to be joined, of this name, is no strand that has ended.
     NotEnded(String),
-    /// `MONITOR_TO` isn't set, or is this text, which is a port that there isn't.
+    /// `MONITOR_TO` isn't set, or is this text, which names no folder, port or socket that there can be.
     Where(String),
+    /// The earlier incarnation of this name still runs.
+    Running(String),
+    /// No earlier incarnation can be told, for this reason: as of a connection, of a file that is replaced, or on this
+    /// system.
+    Again(&'static str),
     /// There is no place for notes, since this is a port, or a file whose name doesn't end with `.stream`; or it is the
     /// text of `MONITOR_NOTES`, and is neither 1 nor 0.
     Notes(String),
@@ -172,8 +181,15 @@ impl Error {
             ),
             Error::Where(place) => write!(
                 to,
-                "MONITOR_TO is {place:?}, and names a folder, or a port from 1 to {PORT_LIMIT} as :7411"
+                "MONITOR_TO is {place:?}, and names a folder, which has a slash if it has a colon, a port as :7411, \
+                 host:7411 or [::1]:7411, from 1 to {PORT_LIMIT}, or a socket as unix:/run/a.sock, of at most \
+                 {SOCKET_BYTE_LIMIT} bytes"
             ),
+            Error::Running(name) => write!(
+                to,
+                "{name} still runs: what is started beside it is no later incarnation, but a process of its own"
+            ),
+            Error::Again(why) => write!(to, "no earlier incarnation can be told: {why}"),
             Error::Notes(text) => write!(
                 to,
                 "{text:?} has no place for notes, which go beside a file whose name ends with {ENDING} and to no port; \
@@ -247,25 +263,79 @@ struct Family {
     strands: Mutex<Strands>,
 }
 
-/// A number that is no port.
-struct OutOfRange;
+/// Where `monitor serve` listens.
+#[derive(Clone)]
+enum Address {
+    /// A port of a host, by its name or address.
+    Port(String, u16),
+    /// A socket with this path.
+    Socket(PathBuf),
+}
 
-/// The port of this machine that a place is, if it is one.
-fn port_in(place: &str) -> Option<Result<u16, OutOfRange>> {
-    let (host, digits) = place.split_once(':')?;
-    let is_port = ["", "localhost", "127.0.0.1"].contains(&host)
-        && (1..=5).contains(&digits.len())
-        && digits.bytes().all(|byte| byte.is_ascii_digit());
-    is_port.then(|| match digits.parse() {
-        Ok(port) if (1..=PORT_LIMIT).contains(&port) => Ok(port),
-        _ => Err(OutOfRange),
-    })
+impl fmt::Display for Address {
+    fn fmt(&self, to: &mut fmt::Formatter<'_>) -> fmt::Result {
+        match self {
+            Address::Port(host, port) => write!(to, "no connection to {host}:{port}"),
+            Address::Socket(path) => write!(to, "no connection to unix:{}", path.display()),
+        }
+    }
+}
+
+impl Address {
+    /// A port of this machine.
+    fn here(port: u16) -> Self {
+        Address::Port(Ipv4Addr::LOCALHOST.to_string(), port)
+    }
+
+    /// The port or the socket that `MONITOR_TO` names; nothing for a folder.
+    fn named(place: &str) -> Result<Option<Self>, Error> {
+        let refused = || Error::Where(place.to_owned());
+        if let Some(path) = place.strip_prefix(SOCKET) {
+            let is_path = path.starts_with('/') && path.len() <= SOCKET_BYTE_LIMIT;
+            return if is_path {
+                Ok(Some(Address::Socket(path.into())))
+            } else {
+                Err(refused())
+            };
+        }
+        if !place.is_empty() && (!place.contains(':') || place.contains(['/', '\\'])) {
+            return Ok(None);
+        }
+        let (host, digits) = place.rsplit_once(':').ok_or_else(refused)?;
+        let are_digits = digits.len() <= 5 && digits.bytes().all(|byte| byte.is_ascii_digit());
+        match (host_named(host), digits.parse()) {
+            (Some(host), Ok(port)) if are_digits && (1..=PORT_LIMIT).contains(&port) => {
+                Ok(Some(Address::Port(host, port)))
+            }
+            _ => Err(refused()),
+        }
+    }
+}
+
+/// The host that stands before a port, if it is one: this machine, a name or an address. One of IPv6 is in brackets.
+fn host_named(text: &str) -> Option<String> {
+    let is_name = |byte: u8| byte.is_ascii_alphanumeric() || b".-_".contains(&byte);
+    match text
+        .strip_prefix('[')
+        .and_then(|rest| rest.strip_suffix(']'))
+    {
+        Some(inside) => {
+            let (address, zone) = inside.split_once('%').unwrap_or((inside, "0"));
+            let is_address = address
+                .bytes()
+                .all(|byte| byte.is_ascii_hexdigit() || b":.".contains(&byte));
+            let is_host = is_address && !address.is_empty() && !zone.is_empty();
+            (is_host && zone.bytes().all(is_name)).then(|| inside.to_owned())
+        }
+        None if text.is_empty() || text == "localhost" => Some(Ipv4Addr::LOCALHOST.to_string()),
+        None => text.bytes().all(is_name).then(|| text.to_owned()),
+    }
 }
 
 enum Room {
     /// Beside the file of the process.
     Beside(PathBuf, Options),
-    Port(u16, Duration),
+    At(Address, Duration),
 }
 
 /// How a file is recorded to.
@@ -281,6 +351,7 @@ enum Room {
 pub struct Options {
     has_notes: bool,
     replaces: bool,
+    again: bool,
 }
 
 impl Options {
@@ -300,19 +371,90 @@ impl Options {
         Options { replaces, ..self }
     }
 
+    /// Whether a file that is there is what the process recorded before it was killed and started again. Then a
+    /// further incarnation is recorded, as a process of its own and to a file beside: of `left` and `left.stream` the
+    /// second one is `left_2` in `left_2.stream`. Its first event receives the message `left-ended`, by which it comes
+    /// after all that the one before did; monitor_mend adds the send. It is [`Error::Running`] while the one before
+    /// still runs, and [`Error::Again`] on a system other than Linux with 64 bits, whose locks aren't known here.
+    pub fn again(self, again: bool) -> Self {
+        Options { again, ..self }
+    }
+
     /// Records to a file.
+    #[track_caller]
     pub fn to_file(self, process: &str, path: impl AsRef<Path>) -> Result<Recorder, Error> {
         check_process(process)?;
         let path = env::current_dir().unwrap_or_default().join(path); // the working directory may change
         if self.has_notes && notes_path(&path).is_none() {
             return Err(Error::Notes(path.to_string_lossy().into_owned()));
         }
+        if self.again {
+            return self.incarnation(process, path);
+        }
         let (file, notes) = self.open(&path)?;
         Recorder::over(process, file, notes, Some(Room::Beside(path, self)))
     }
 
+    /// Records to the first file of the process that isn't there yet.
+    #[track_caller]
+    fn incarnation(self, process: &str, first: PathBuf) -> Result<Recorder, Error> {
+        if self.replaces {
+            return Err(Error::Again(
+                "a file that is replaced has no recording of one",
+            ));
+        }
+        if !locks::ARE_KNOWN {
+            return Err(Error::Again("this system has no locks that are known"));
+        }
+        let mut number = 1;
+        while is_there(&path_of(&first, number)) {
+            number += 1;
+        }
+        let before = incarnation_of(process, number - 1);
+        if number > 1 && locks::is_locked(&File::open(path_of(&first, number - 1))?) {
+            return Err(Error::Running(before));
+        }
+        let name = incarnation_of(process, number);
+        check_process(&name)?;
+        // It gets its name once the receipt stands in it, so that it has that whenever the process is killed.
+        let path = path_of(&first, number);
+        let part = new_part(&path);
+        let note = Note::at(Location::caller());
+        let made = self.in_part(&name, &path, &part, first).and_then(|made| {
+            if number > 1 {
+                let id = format!("{before}-ended");
+                made.ready()?.record(Some(("recv", &id)), &[], note)?;
+            }
+            fs::rename(&part, &path)?;
+            Ok(made)
+        });
+        if made.is_err() {
+            let _ = fs::remove_file(&part); // the error says more
+        }
+        made
+    }
+
+    /// Records to a new file with a lock. Notes that are there are of an incarnation that was killed before its stream
+    /// had its name.
+    fn in_part(
+        self,
+        name: &str,
+        path: &Path,
+        part: &Path,
+        first: PathBuf,
+    ) -> Result<Recorder, Error> {
+        let file = Options::new().new_file(part)?;
+        locks::lock(&file);
+        let notes = match notes_path(path) {
+            Some(notes) if self.has_notes => Some(Options::new().replace(true).new_file(&notes)?),
+            _ => None,
+        };
+        Recorder::over(name, file, notes, Some(Room::Beside(first, self)))
+    }
+
     /// Records to where `MONITOR_TO` says, as [`Recorder::from_environment`] does.
     #[allow(clippy::wrong_self_convention)]
+    #[track_caller]
     pub fn from_environment(mut self, process: &str) -> Result<Recorder, Error> {
         check_process(process)?;
         let place = env::var_os("MONITOR_TO").unwrap_or_default();
@@ -327,10 +469,11 @@ impl Options {
             }
             _ => (),
         }
-        match place.to_str().and_then(port_in) {
-            Some(Err(OutOfRange)) => Err(Error::Where(text())),
-            Some(Ok(_)) if self.has_notes => Err(Error::Notes(text())),
-            Some(Ok(port)) => Recorder::to_port(process, port),
+        let only = "only a folder has the recording of one, and MONITOR_TO is a connection";
+        match Address::named(&text())? {
+            Some(_) if self.has_notes => Err(Error::Notes(text())),
+            Some(_) if self.again => Err(Error::Again(only)),
+            Some(address) => Recorder::to_address(process, address, PATIENCE),
             None => {
                 fs::create_dir_all(&place)?;
                 self.to_file(
@@ -396,6 +539,50 @@ fn already(path: &Path) -> io::Error {
     io::Error::new(io::ErrorKind::AlreadyExists, text)
 }
 
+/// The name of this incarnation of a process.
+fn incarnation_of(process: &str, number: usize) -> String {
+    if number <= 1 {
+        process.to_owned()
+    } else {
+        format!("{process}_{number}")
+    }
+}
+
+/// The file of this incarnation, if that of the first one is given.
+fn path_of(first: &Path, number: usize) -> PathBuf {
+    if number == 1 {
+        return first.to_owned();
+    }
+    let mut name = first.file_stem().unwrap_or_default().to_owned();
+    name.push(format!("_{number}"));
+    if let Some(ending) = first.extension() {
+        name.push(".");
+        name.push(ending);
+    }
+    first.with_file_name(name)
+}
+
+/// Where a file stands until it gets its name. A process that was killed before may have had the number of this one.
+fn new_part(path: &Path) -> PathBuf {
+    let named = |more: String| {
+        let mut name = path.file_name().unwrap_or_default().to_owned();
+        name.push(format!(".{}{more}.part", process::id()));
+        path.with_file_name(name)
+    };
+    let mut part = named(String::new());
+    let mut number = 2;
+    while is_there(&part) {
+        part = named(format!("-{number}"));
+        number += 1;
+    }
+    part
+}
+
+/// Whether there is something by this name, be it a link that leads nowhere.
+fn is_there(path: &Path) -> bool {
+    path.symlink_metadata().is_ok()
+}
+
 /// The file of the notes of a stream, if that has a name by which there can be one.
 fn notes_path(path: &Path) -> Option<PathBuf> {
     let stem = path.file_name()?.to_str()?.strip_suffix(ENDING)?;
@@ -439,15 +626,21 @@ impl Recorder {
 
     /// The same, with another time to wait for somebody who listens.
     pub fn to_port_within(process: &str, port: u16, patience: Duration) -> Result<Self, Error> {
+        Recorder::to_address(process, Address::here(port), patience)
+    }
+
+    fn to_address(process: &str, address: Address, patience: Duration) -> Result<Self, Error> {
         check_process(process)?;
-        let room = Room::Port(port, patience);
-        Recorder::over(process, connection_to(port, patience)?, None, Some(room))
+        let out = connection_to(&address, patience)?;
+        Recorder::over(process, out, None, Some(Room::At(address, patience)))
     }
 
     /// Records to where `MONITOR_TO` in the environment says, so that no code changes between a test and a live
     /// session: to a new file `NAME.stream` in a folder of this name, which is made if there is none; or to `monitor
-    /// serve` on a port of this machine, of `:7411` or `localhost:7411`. With `MONITOR_NOTES=1` each event gets a note
-    /// beside the file; a port has no place for notes, so the two together are [`Error::Notes`].
+    /// serve`, on a port of this machine, of `:7411` or `localhost:7411`, on one of another machine, of `host:7411` or
+    /// `[fe80::1]:7411`, or by a Unix socket, of `unix:/run/monitor.sock`. With `MONITOR_NOTES=1` each event gets a
+    /// note beside the file. A connection has no place for notes, and keeps no earlier incarnation, so with one notes
+    /// are [`Error::Notes`], and [`Options::again`] is [`Error::Again`]. What has a colon and no slash is no folder.
     pub fn from_environment(process: &str) -> Result<Self, Error> {
         Options::new().from_environment(process)
     }
@@ -703,7 +896,7 @@ impl Family {
                 let (file, notes) = options.open_beside(path, name)?;
                 (Box::new(file), notes)
             }
-            Some(Room::Port(port, patience)) => (Box::new(connection_to(*port, *patience)?), None),
+            Some(Room::At(address, patience)) => (connection_to(address, *patience)?, None),
         };
         let recording = Arc::new(Mutex::new(Recording::begun(name, out, notes, true)?));
         strands.names.insert(name.to_owned());
@@ -1021,30 +1214,128 @@ fn is_name(name: &str) -> bool {
         && !RESERVED.contains(&name)
 }
 
-/// A connection to a port of this machine, on which nobody may listen yet.
-fn connection_to(port: u16, patience: Duration) -> io::Result<TcpStream> {
+/// A connection to a port or a socket, where nobody may listen yet.
+fn connection_to(address: &Address, patience: Duration) -> io::Result<Box<dyn Write + Send>> {
     let begin = Instant::now();
     loop {
-        match connection_now(port) {
-            Err(error)
-                if error.kind() == io::ErrorKind::ConnectionRefused
-                    && begin.elapsed() < patience =>
-            {
+        let connected = match address {
+            Address::Port(host, port) => connection_now(host, *port, patience),
+            Address::Socket(path) => socket_at(path),
+        };
+        let comes_later = |error: &io::Error| match address {
+            Address::Port(..) => error.kind() == io::ErrorKind::ConnectionRefused,
+            Address::Socket(_) => matches!(
+                error.kind(),
+                io::ErrorKind::ConnectionRefused | io::ErrorKind::NotFound
+            ),
+        };
+        match connected {
+            Err(error) if comes_later(&error) && begin.elapsed() < patience => {
                 thread::sleep(PAUSE);
             }
+            Err(error) => return Err(io::Error::new(error.kind(), format!("{address}: {error}"))),
             connected => return connected,
         }
     }
 }
 
-fn connection_now(port: u16) -> io::Result<TcpStream> {
-    let connection = TcpStream::connect((Ipv4Addr::LOCALHOST, port))?;
-    // A connection to a port that nobody has bound can come to be with itself.
-    if connection.local_addr()? == connection.peer_addr()? {
-        return Err(io::ErrorKind::ConnectionRefused.into());
+fn connection_now(host: &str, port: u16, patience: Duration) -> io::Result<Box<dyn Write + Send>> {
+    let mut refused = io::Error::from(io::ErrorKind::ConnectionRefused);
+    for address in (host, port).to_socket_addrs()? {
+        match TcpStream::connect_timeout(&address, patience.max(ANSWER)) {
+            // A connection to a port that nobody has bound can come to be with itself.
+            Ok(connection) if connection.local_addr()? != connection.peer_addr()? => {
+                connection.set_nodelay(true)?;
+                return Ok(Box::new(connection));
+            }
+            Ok(_) => (),
+            Err(error) => refused = error,
+        }
     }
-    connection.set_nodelay(true)?;
-    Ok(connection)
+    Err(refused)
+}
+
+#[cfg(unix)]
+fn socket_at(path: &Path) -> io::Result<Box<dyn Write + Send>> {
+    Ok(Box::new(std::os::unix::net::UnixStream::connect(path)?))
+}
+
+#[cfg(not(unix))]
+fn socket_at(_path: &Path) -> io::Result<Box<dyn Write + Send>> {
+    let text = "this system has no sockets with a path: let MONITOR_TO name a port";
+    Err(io::Error::new(io::ErrorKind::Unsupported, text))
+}
+
+/// Locks of POSIX, by which a process is seen to run: those of the standard library are others than the recorders of
+/// other languages have.
+#[cfg(all(
+    target_os = "linux",
+    target_pointer_width = "64",
+    not(target_arch = "mips64")
+))]
+mod locks {
+    use std::fs::File;
+    use std::io;
+    use std::os::raw::{c_int, c_short};
+    use std::os::unix::io::AsRawFd;
+
+    const F_SETLK: c_int = 6;
+    const F_RDLCK: c_short = 0;
+    const F_WRLCK: c_short = 1;
+
+    /// The `struct flock` of C. Nothing but a kind says the whole file.
+    #[repr(C)]
+    #[derive(Default)]
+    struct Flock {
+        kind: c_short,
+        whence: c_short,
+        start: i64,
+        size: i64,
+        process: c_int,
+    }
+
+    extern "C" {
+        fn fcntl(descriptor: c_int, command: c_int, ...) -> c_int;
+    }
+
+    pub const ARE_KNOWN: bool = true;
+
+    /// Has this process hold a lock on the file for as long as it runs, if its folder can have locks.
+    pub fn lock(file: &File) {
+        set(file, F_WRLCK);
+    }
+
+    /// Whether another process holds a lock on the file.
+    pub fn is_locked(file: &File) -> bool {
+        let is_set = set(file, F_RDLCK);
+        let error = io::Error::last_os_error().raw_os_error();
+        !is_set && matches!(error, Some(11 | 13)) // EAGAIN or EACCES
+    }
+
+    fn set(file: &File, kind: c_short) -> bool {
+        let lock = Flock {
+            kind,
+            ..Flock::default()
+        };
+        // SAFETY: the lock is there for as long as it is read.
+        unsafe { fcntl(file.as_raw_fd(), F_SETLK, &lock) == 0 }
+    }
+}
+
+/// Elsewhere nothing is known of them.
+#[cfg(not(all(
+    target_os = "linux",
+    target_pointer_width = "64",
+    not(target_arch = "mips64")
+)))]
+mod locks {
+    pub const ARE_KNOWN: bool = false;
+
+    pub fn lock(_file: &std::fs::File) {}
+
+    pub fn is_locked(_file: &std::fs::File) -> bool {
+        false
+    }
 }
 
 /// A message that goes with what threads share.

@@ -202,8 +202,10 @@ fn a_port_on_which_nobody_listens() {
     // Nobody can listen on a port that is the end of a connection.
     let port = connection.local_addr().unwrap().port();
     let nobody = Recorder::to_port_within("left", port, Duration::from_millis(1));
+    let said = format!("no connection to 127.0.0.1:{port}: ");
     assert!(
-        matches!(nobody, Err(Error::Io(error)) if error.kind() == ErrorKind::ConnectionRefused)
+        matches!(nobody, Err(Error::Io(error)) if error.kind() == ErrorKind::ConnectionRefused
+            && error.to_string().starts_with(&said))
     );
     assert!(matches!(
         Recorder::to_port("and", port),
