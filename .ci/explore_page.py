@@ -12,7 +12,8 @@ import sys
 
 CRATE = pathlib.Path(__file__).resolve().parent.parent / "crates" / "out_page"
 PAGE = CRATE / "page"
-SCRIPTS = ["run.js", "predicate.js", "matter.js", "lanes.js", "diagram.js", "picture.js", "panel.js", "pointer.js", "main.js"]
+SCRIPTS = ["run.js", "verdict.js", "notes.js", "predicate.js", "matter.js", "lanes.js", "labels.js", "diagram.js",
+           "picture.js", "panel.js", "refusal.js", "pointer.js", "main.js"]
 COLUMNS = 116
 ESCAPES = {0x0A: "\\n", 0x22: '\\"', 0x5C: "\\\\"}
 

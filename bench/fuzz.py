@@ -9,7 +9,7 @@ crates/monitor/out/monitor if it isn't given. The targets, each for N seconds on
     bundle     a bundle on the standard input; one that is refused or judged has the report that a bundle can have
     explained  the same with --explain: what is said has no byte that a terminal obeys
     check      a report, true or damaged; of a true one no evidence is bad
-    explore    the document and the streams: a page whose scripts are the page's own, or a refusal
+    explore    the document and the streams: a page whose scripts are the page's own
     draw       the same and a report: a picture that is XML, or what stands against it
     importers  the importers, monitor_mend and monitor_infer: a session or a named refusal, and no other exception
 

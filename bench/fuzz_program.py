@@ -12,6 +12,9 @@ import fuzz_inputs
 SECONDS, MORE_SECONDS = 10, 60
 NAME = rb"[A-Za-z_][A-Za-z0-9_]*"
 REFUSED = re.compile(rb"refused [A-Za-z0-9_#, -]+\n")
+# What a page has of a refusal, before its explanation.
+REFUSAL = re.compile(rb'<script type="application/json" id="data">\{"format":1,"refusal":\["(refused [A-Za-z0-9_#, -]+)'
+                     rb'\\u000a","')
 JUDGED = re.compile(rb"session \d+ processes \d+ events \d+ messages\n(?:(%s) possibly (?:yes [\d,]+|no|unknown \d+)\n"
                     rb"\1 definitely (?:yes \d+|no [\w,-]+|unknown \d+)\n)+" % NAME)
 CHECKED = re.compile(rb"report line \d+\n|refused (?:good|bad)\n|session (?:good|bad)\n(?:names bad\n"
@@ -125,10 +128,10 @@ class Explore(Target):
         return self.by(["explore", *files], None, files)
 
     def is_right(self, trial, status, output, errors):
-        if errors or status not in (0, 1):
+        if errors or status not in (0, 1) or not output.startswith(b"<!doctype html>\n"):
             return False
-        if not output.startswith(b"<!doctype html>\n"):
-            return status == 1 and REFUSED.fullmatch(output)
+        if REFUSAL.search(output) and status != 1:
+            return False
         scripts = output.count(b"<script"), output.count(b"</script>"), output.count(b"<!--")
         self.scripts = self.scripts or scripts
         return scripts == self.scripts and output.endswith(b"</html>\n")

@@ -359,6 +359,11 @@ def faults():
     yield session("there is no predicate of nearly that name to fail on", words=("--fail-on", "possibly,other:unknown"))
     yield session("there is none of that name among those that are asked for",
                   words=("--ask", "a.x == 1", "--fail-on", "both:possibly"))
+    yield paged(session("there is no predicate of that name to wish for", words=("--never", "both", "--always", "bot")))
+    notes = paged(session("notes aren't there, and a stream is", words=("--notes", "b.notes", "--notes", "a.stream")))
+    yield notes
+    yield notes._replace(name="notes are not UTF-8", files={**notes.files, "b.notes": b"\xff\n"})
+    yield notes._replace(name="notes are too long", files={**notes.files, "b.notes": 67_108_865})
     yield good._replace(name="there is no picture of a bad report", files={**good.files, "report": "all possibly no\n"},
                         words=("draw", "session.json", "report", "a.stream", "b.stream"))
     yield good._replace(name="there is no evidence of that kind", files={**good.files, "report": REPORT},
@@ -398,6 +403,7 @@ def connections():
 MEMORY = 14 << 20
 # The length of a file that is one byte longer than a report may be.
 TOO_LONG = 268_435_457
+DATA = re.compile('<script type="application/json" id="data">(.*?)</script>', re.DOTALL)
 REPORT = "session 2 processes 2 events 0 messages\nboth possibly yes 1,1\nboth definitely yes 2\n"
 KINDS = {
     "The session document": documents, "The text of a predicate": predicates,
@@ -455,6 +461,14 @@ def ran(program, folder, case, words):
         return process.returncode, file.read().decode(), errors.decode()
 
 
+def paged_otherwise(program, folder, case, refusal):
+    """What is wrong of the page of this refusal, the report and what explains it, where nobody asks for explanations."""
+    status, output, errors = ran(program, folder, case, ["explore", *case.words[1:]])
+    data = DATA.search(output)
+    shown = json.loads(data[1]).get("refusal") if data else None
+    return [] if (status, shown, errors) == (1, refusal, "") else [f"its page is of {status} {shown} {errors!r}"]
+
+
 def explained(program, case):
     """How a case goes: its report or fixed line, and its explanation; and in what it goes wrong, if it does."""
     with tempfile.TemporaryDirectory() as folder, socket.socket() as taken:
@@ -482,6 +496,8 @@ def explained(program, case):
             wrong.append("nothing is explained")
         if any(len(line) > ROW for line in explanation.splitlines()):
             wrong.append(f"a line has more than {ROW} columns: {explanation!r}")
+        if case.words[:1] == ("judge",) and re.match("refused (?!cycle)", plain[1]):
+            wrong += paged_otherwise(program, folder, case, [plain[1], explanation])
         explanation = re.sub(rf"\b([Pp]ort) (?:{port}|{ports['FREE'] or port})\b", r"\1 7411", explanation)
         return plain[2] or (HTML if plain[1].startswith(HTML) else plain[1]), explanation, wrong
 

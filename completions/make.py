@@ -19,6 +19,7 @@ ROOT = os.path.dirname(HERE)
 CONDITIONS = ["possibly", "possibly-no", "definitely", "definitely-no", "unknown"]
 # What each value of an option may be: words; or None, if any text is.
 VALUES = {
+    "ADDRESS": None,
     "ALWAYS": None,
     "COLUMN": None,
     "FOLDER": None,
@@ -26,7 +27,11 @@ VALUES = {
     "KIND": ["possibly", "definitely"],
     "LIST": CONDITIONS,
     "NEVER": None,
+    "NOTES": None,
+    "PATH": None,
+    "PATTERN": None,
     "PORT": None,
+    "PORT_FILE": None,
     "PREDICATE": None,
     "SECONDS": None,
     "SOMETIMES": None,
@@ -322,8 +327,9 @@ def wrong_completions(files):
         "monitor judge session --fail-on=a:possibly,both:po": ["possibly", "possibly-no"],
         "monitor judge session --fail-on a:unknown,p": ["unknown,possibly", "unknown,possibly-no"],
         "monitor judge --workers 1": ["1", "10", "11", "12", "13", "14", "15", "16"],
-        "monitor serve session --p": ["--port"],
+        "monitor serve session --p": ["--port", "--port-file"],
         "monitor serve session --port ": [],
+        "monitor explore session a --n": ["--never", "--notes"],
         "monitor draw --": [
             "--width", "--ask", "--predicate", "--evidence", "--from", "--all", "--help", "--explain"],
         "monitor draw session report a --evidence ": ["possibly", "definitely"],
@@ -340,7 +346,7 @@ def wrong_completions(files):
         "monitor judge session --fail-on a:possibly,both:defin": ["a:possibly,both:definitely",
                                                                  "a:possibly,both:definitely-no"],
         "monitor judge --workers 1": ["1", "10", "11", "12", "13", "14", "15", "16"],
-        "monitor serve session --p": ["--port"],
+        "monitor serve session --p": ["--port", "--port-file"],
         "monitor help s": ["serve"],
     }
     script = files["completions/monitor.fish"]

@@ -50,6 +50,12 @@ _monitor() {
       return ;;
     --port)
       return ;;
+    --bind)
+      return ;;
+    --socket)
+      return ;;
+    --port-file)
+      return ;;
     --watchers)
       return ;;
     --wait)
@@ -62,13 +68,17 @@ _monitor() {
       return ;;
     --sometimes)
       return ;;
+    --notes)
+      return ;;
+    --link)
+      return ;;
   esac
   case "$command" in
     judge) options='--explain --width --ask --workers --beyond-width --fail-on --format -h --help' ;;
     check) options='--explain --width --ask -h --help' ;;
     draw) options='--explain --width --ask --predicate --evidence --from --all -h --help' ;;
-    serve) options='--explain --width --ask --port --watchers --wait --keep --workers --beyond-width --fail-on -h --help' ;;
-    explore) options='--explain --width --ask --workers --beyond-width --fail-on -h --help' ;;
+    serve) options='--explain --width --ask --port --bind --socket --port-file --watchers --wait --keep --workers --beyond-width --fail-on -h --help' ;;
+    explore) options='--explain --width --ask --workers --beyond-width --fail-on --never --always --sometimes --notes --link -h --help' ;;
     test) options='--explain --width --ask --workers --never --always --sometimes -h --help' ;;
     help)
       COMPREPLY=($(compgen -W 'judge check draw serve explore test help' -- "$current"))

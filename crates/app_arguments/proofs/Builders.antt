@@ -1,44 +1,21 @@
--- What the calls that build an argument and a command make of the rules that its parser goes by.
-use Rattle.std.proofs.Common.{◌≡◌, ◌||◌, false, ap, ap₂, ◌∙◌, Err, Ok, Result}
+-- What a command's line adds to the program's.
+use Rattle.std.proofs.Common.{◌≡◌, ◌∷◌, [], List, Err, Ok, Result, ◌∙◌, ap₂}
 use Rattle.std.specs.Prelude.{IfOk}
-use Rattle.clap.specs.Words.{AddsArg, App, Rule, app_of, rule_of, with_rule, with_subcommand}
-use Rattle.clap.specs.declared.builder.arg.Arg.{Arg}
+use Rattle.clap.specs.Words.{App, Text, app_of}
 use Rattle.clap.specs.declared.builder.command.Command.{Command}
-use Rattle.clap.specs.declared.builder.command.Command.TheViews.{out-Command}
-use Rattle.app_arguments.specs.Arguments.{AddsCommand}
+use Rattle.app_arguments.specs.Table.{Argument, with_commands}
 
--- the argument's rule, of the command alone that it is added to
-abbrev pub HasRule : Arg → Rule → Type 0
-HasRule a rule = (rule_of a ≡ rule) × (a.global ≡ false)
+-- a command that is added to a program's line, with these arguments
+pub added : (old before new : App) (name : Text) (rows arguments : List Argument)
+    → new ≡ with_commands old ((name, rows) ∷ []) → old ≡ before → rows ≡ arguments
+    → new ≡ with_commands before ((name, arguments) ∷ [])
+added old before new name rows arguments is same rows_are =
+    is ∙ ap₂ (λ (app : App) (given : List Argument). with_commands app ((name, given) ∷ [])) same rows_are
 
--- the command's rules, none of which its subcommands share
-abbrev pub HasApp : Command → App → Type 0
-HasApp command app = (app_of command ≡ app) × ((out-Command command).has_globals ≡ false)
-
-pub with_argument : (old : Command) (a : Arg) (new : Command) (app : App) (rule : Rule) → HasApp old app
-    → HasRule a rule → AddsArg old a new → HasApp new (with_rule app rule)
-with_argument old a new app rule (app_is, no_globals) (rule_is, local) adds =
-    (adds.shape local ∙ ap₂ with_rule app_is rule_is, adds.globals ∙ ap₂ ◌||◌ no_globals local)
-
-pub with_last_argument : {E : Type 0} (old : Command) (a : Arg) (new : Result Command E) (app : App) (rule : Rule)
-    → HasApp old app → HasRule a rule → IfOk new (AddsArg old a)
-    → IfOk new (λ command. app_of command ≡ with_rule app rule)
-    × IfOk new (λ command. (out-Command command).has_globals ≡ false)
-with_last_argument old a (Err error) app rule has is adds = (tt, tt)
-with_last_argument old a (Ok command) app rule has is adds = with_argument old a command app rule has is adds
-
-pub with_command : {E : Type 0} (old : Command) (command : Result Command E) (new : Command) (app of_command : App)
-    → app_of old ≡ app → IfOk command (λ it. app_of it ≡ of_command)
-    → AddsCommand old command new
-    → app_of new ≡ with_subcommand app of_command.top
-with_command old (Err error) new app of_command old_is command_is adds = absurd adds
-with_command old (Ok command) new app of_command old_is command_is adds =
-    adds ∙ ap₂ with_subcommand old_is (ap (λ (it : App). it.top) command_is)
-
-pub with_last_command : {E F : Type 0} (old : Command) (command : Result Command E) (new : Result Command F)
-    (app of_command : App) → app_of old ≡ app → IfOk command (λ it. app_of it ≡ of_command)
-    → IfOk new (AddsCommand old command)
-    → IfOk new (λ whole. app_of whole ≡ with_subcommand app of_command.top)
-with_last_command old command (Err error) app of_command old_is command_is adds = tt
-with_last_command old command (Ok whole) app of_command old_is command_is adds =
-    with_command old command whole app of_command old_is command_is adds
+-- the same of a result
+pub last_added : {E : Type 0} (old before : App) (new : Result Command E) (name : Text) (rows arguments : List Argument)
+    → IfOk new (λ whole. app_of whole ≡ with_commands old ((name, rows) ∷ [])) → old ≡ before → rows ≡ arguments
+    → IfOk new (λ whole. app_of whole ≡ with_commands before ((name, arguments) ∷ []))
+last_added old before (Err error) name rows arguments is same rows_are = tt
+last_added old before (Ok whole) name rows arguments is same rows_are =
+    added old before (app_of whole) name rows arguments is same rows_are

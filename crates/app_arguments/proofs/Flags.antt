@@ -8,7 +8,8 @@ use Rattle.clap.specs.Matches.{ReadsOne}
 use Rattle.clap.specs.Simple.{subcommand_of}
 use Rattle.clap.specs.Walk.{Row, Text, first_of, one_of}
 use Rattle.clap.specs.declared.error.kind.ErrorKind.TheVariants.{DisplayHelp, DisplayVersion, InvalidSubcommand, UnknownArgument}
-use Rattle.app_arguments.specs.Arguments.{SaysFlag, monitor_app}
+use Rattle.app_arguments.specs.Arguments.{SaysFlag}
+use Rattle.app_arguments.specs.Table.{monitor_app}
 use Rattle.app_arguments.proofs.Numbers.{some_same}
 
 true_of_text : (E : Type 0) (text : Text) (read : Option Bool) → ReadsOne {E = E} ParsesBool text read
@@ -55,18 +56,12 @@ served_within_width :
 unfolding clap_on_literals
 served_within_width = refl
 
--- `check`, `draw` and the plain program don't take it
+-- `check` and the plain program don't take it
 check_has_no_flag :
     fault_of monitor_app (codes "check" ∷ codes "spec" ∷ codes "report" ∷ codes "stream" ∷ codes "--beyond-width" ∷ [])
     ≡ UnknownArgument ∷ []
 unfolding clap_on_literals
 check_has_no_flag = refl
-
-draw_has_no_flag :
-    fault_of monitor_app (codes "draw" ∷ codes "spec" ∷ codes "report" ∷ codes "stream" ∷ codes "--beyond-width" ∷ [])
-    ≡ UnknownArgument ∷ []
-unfolding clap_on_literals
-draw_has_no_flag = refl
 
 -- the option's text stands in the rows of `judge` and `serve`, and in no other command's
 abbrev list_given : List Text → Option (Option Text)

@@ -1,11 +1,11 @@
 -- What a parse finds is what the arguments ask for.
-use Rattle.std.proofs.Common.{◌≡◌, true, List, [], refl, sym, ap, ◌∙◌, subst, Some, None, Option, option_map, inl, inr}
+use Rattle.std.proofs.Common.{Bor, ◌≡◌, true, List, [], refl, sym, ap, ◌∙◌, subst, Some, None, Option, option_map, inl, inr}
 use Rattle.clap.specs.Faults.{fault_of, is_simple_and_free}
 use Rattle.clap.specs.Kinds.{HasKind}
-use Rattle.clap.specs.Matches.{subcommand_name_of}
+use Rattle.clap.specs.Matches.{found_of, subcommand_name_of}
 use Rattle.clap.specs.Simple.{App, HasMatchesOf, is_simple, subcommand_of, subcommand_rows, subcommand_rows_of}
 use Rattle.clap.specs.Values.{kind_of}
-use Rattle.clap.specs.Walk.{Row, Text}
+use Rattle.clap.specs.Walk.{Row, Text, rows_of}
 use Rattle.clap.specs.declared.error.Error.{Error}
 use Rattle.clap.specs.declared.parser.matches.ArgMatches.{ArgMatches}
 use Rattle.clap.specs.declared.builder.range.ValueRange.{ValueRange}
@@ -16,7 +16,10 @@ use Rattle.clap.specs.declared.parser.matches.SubCommand.{SubCommand}
 use Rattle.std.specs.Prelude.{IsSomeAnd, ◌≢◌}
 use Rattle.clap.proofs.OnLiterals.{clap_on_literals}
 use Rattle.app_arguments.specs.Statuses.{Unclear}
-use Rattle.app_arguments.specs.Arguments.{AreOf, AsksFor, HasFault, IsErrorOf, IsShownKind, monitor_app, of_fault, of_help, of_version}
+use Rattle.app_arguments.specs.Arguments.{AreOf, AreTaken, AsksFor, HasFault, IsShownKind, of_command, of_fault, of_help, of_nothing, of_version}
+use Rattle.app_arguments.specs.Table.{monitor_app}
+use Rattle.app_arguments.specs.Views.{FindsRequest, IsAskedIf, IsErrorOf, request_view}
+use Rattle.app_arguments.specs.declared.request.Request.{Request}
 use Rattle.clap.specs.declared.error.kind.ErrorKind.{ErrorKind}
 use Rattle.clap.specs.declared.error.kind.ErrorKind.TheVariants.{OutOfMemory}
 
@@ -100,16 +103,39 @@ not_none f None b some none = cc
 not_none f (Some a) b some none = cc
 
 -- the command of this name was found, and these rows
-pub command_rows : (command : Text) (arguments : List Text) (m : ArgMatches) (rows : List Row)
-    → subcommand_rows_of m ≡ subcommand_of monitor_app arguments → subcommand_name_of m ≡ Some command
-    → option_map (λ p. p.1) (subcommand_rows_of m) ≡ Some rows → AreOf command arguments rows
-command_rows command arguments m rows same named found =
-    sym same ∙ both_of (subcommand_rows_of m) command rows (sym (name_in_rows m) ∙ named) found
+pub command_found : (arguments : List Text) (m : ArgMatches) (found : Option (Bor Text × Bor ArgMatches))
+    (name : Bor Text) (matches : Bor ArgMatches) → subcommand_rows_of m ≡ subcommand_of monitor_app arguments
+    → option_map (λ (p : Bor Text × Bor ArgMatches). p.0.now) found ≡ subcommand_name_of m
+    → option_map (λ (p : Bor Text × Bor ArgMatches). rows_of (found_of p.1.now)) found
+    ≡ option_map (λ p. p.1) (subcommand_rows_of m)
+    → found ≡ Some (name, matches) → AreOf name.now arguments (rows_of (found_of matches.now))
+command_found arguments m found name matches same named rows is =
+    sym same ∙ both_of (subcommand_rows_of m) name.now (rows_of (found_of matches.now))
+    (sym (name_in_rows m) ∙ sym named
+    ∙ ap (λ (o : Option (Bor Text × Bor ArgMatches)). option_map (λ (p : Bor Text × Bor ArgMatches). p.0.now) o) is)
+    (sym rows ∙ ap (λ (o : Option (Bor Text × Bor ArgMatches)).
+    option_map (λ (p : Bor Text × Bor ArgMatches). rows_of (found_of p.1.now)) o) is)
 
-pub named_by_rows : (command : Text) (arguments : List Text) (m : ArgMatches) (rows : List Row)
-    → subcommand_rows_of m ≡ subcommand_of monitor_app arguments → AreOf command arguments rows
-    → subcommand_name_of m ≡ Some command
-named_by_rows command arguments m rows same found = name_in_rows m ∙ ap (option_map (λ p. p.0)) (same ∙ found)
+none_of_map : {A B : Type 0} (f : A → B) (found : Option A) → option_map f found ≡ None → found ≡ None
+none_of_map f None none = refl
+none_of_map f (Some a) none = cc
+
+-- no command was found
+pub no_command_found : (m : ArgMatches) (found : Option (Bor Text × Bor ArgMatches))
+    → option_map (λ (p : Bor Text × Bor ArgMatches). rows_of (found_of p.1.now)) found
+    ≡ option_map (λ p. p.1) (subcommand_rows_of m)
+    → found ≡ None → subcommand_rows_of m ≡ None
+no_command_found m found rows is =
+    none_of_map (λ p. p.1) (subcommand_rows_of m) (sym rows ∙ ap (λ (o : Option (Bor Text × Bor ArgMatches)).
+    option_map (λ (p : Bor Text × Bor ArgMatches). rows_of (found_of p.1.now)) o) is)
+
+-- what the rows of a command name is asked for, or nothing that can be done
+pub asked_by : (arguments : List Text) (command : Text) (rows : List Row) (found : Option Request)
+    → AreTaken arguments → AreOf command arguments rows → FindsRequest command rows found
+    → IsAskedIf arguments found
+asked_by arguments command rows None taken are none = of_nothing command rows are none
+asked_by arguments command rows (Some request) taken are names =
+    of_command command rows (request_view request) taken are names
 
 -- arguments that ask for nothing that can be done
 pub unclear_found : (arguments : List Text) (error : Error) → AsksFor arguments Unclear

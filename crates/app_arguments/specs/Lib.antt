@@ -1,7 +1,9 @@
+pub mod Table
 pub mod Arguments
 pub mod Views
 pub mod Statuses
 pub mod Conditions
 pub mod Formats
+pub mod Places
 pub mod Wishes
 pub mod ConditionViews

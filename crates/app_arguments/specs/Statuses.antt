@@ -8,11 +8,19 @@ use Rattle.app_arguments.specs.Conditions as conditions
 use Rattle.app_arguments.specs.Conditions.{Condition, Conclusion, conclusion, unknown_name}
 use Rattle.judge_runs.specs.Wishes.{names_of}
 use Rattle.app_arguments.specs.Formats.{Format}
+use Rattle.app_arguments.specs.Places.{Place}
 use Rattle.judge_runs.specs.Wishes.{Wish}
 use Rattle.out_picture.specs.Scopes.{Scope}
 use Rattle.def_judgement.specs.Writes.{Source, Writes, Whole, Partial, IsAnyReport, IsBrokenOff, IsJudged, IsRefused, IsWholeInput, IsTextOfBundle, IsTextOfStreams, IsTooLong, IsFindingTextOf}
 
 -- ---- what a run is asked for
+
+-- what is asked of a page: what is wished of predicates, the names of the files of notes on events, and the pattern of
+-- a link to where an event stands in a source
+pub record PageOptions : Type 0 where
+  pub wishes : List Wish
+  pub notes : List (List ℕ)
+  pub link : Option (List ℕ)
 
 pub data Request : Type 0 where
   -- to judge the bundle on the input
@@ -27,14 +35,16 @@ pub data Request : Type 0 where
   -- to draw a report with a session document, with what is asked beside it, and streams of events, each in a file of
   -- this name: as much of it as this
   DrawFiles : (options : Options) (scope : Scope) (document report : List ℕ) (streams : List (List ℕ)) → Request
-  -- to judge a session document, in the file of this name, and streams of events that come by connections to this port,
-  -- in the same way; to show meanwhile how far they are read to this many watchers; to wait no longer than this many
-  -- seconds for the connections, and to keep the session in the folder of this name, if that is asked for
-  ServeStreams : (options : Options) (fail_on : List Condition) (document : List ℕ) (port watchers : ℕ)
-      (wait : Option ℕ) (keep : Option (List ℕ)) → Request
+  -- to judge a session document, in the file of this name, and streams of events that come by connections to this
+  -- place, in the same way; to name its port in a file, if that is asked for; to show meanwhile how far they are read
+  -- to this many watchers; to wait no longer than this many seconds for the connections, and to keep the session in the
+  -- folder of this name, if that is asked for
+  ServeStreams : (options : Options) (fail_on : List Condition) (document : List ℕ) (place : Place)
+      (port_file : Option (List ℕ)) (watchers : ℕ) (wait : Option ℕ) (keep : Option (List ℕ)) → Request
   -- to write a page of a session document, with what is asked beside it, and streams of events, each in a file of this
   -- name
-  ExploreFiles : (options : Options) (fail_on : List Condition) (document : List ℕ) (streams : List (List ℕ)) → Request
+  ExploreFiles : (options : Options) (fail_on : List Condition) (page : PageOptions) (document : List ℕ)
+      (streams : List (List ℕ)) → Request
   -- to judge recorded runs, each in the folder of this name, with what is asked beside their documents, and to fail on
   -- those that aren't as wished
   TestRuns : (options : Options) (wishes : List Wish) (runs : List (List ℕ)) → Request
@@ -78,11 +88,12 @@ pub data Failure : Type 0 where
   MemoryFailure : Failure
   -- the input or a file can't be read, or a report is too long
   ReadFailure : Failure
-  -- the output can't be written, or not be flushed; or a session that is to be kept can't be
+  -- the output can't be written, or not be flushed; or a session that is to be kept can't be, or a port not be named in
+  -- its file
   WriteFailure : Failure
   -- the bundle is too long
   BundleFailure : Failure
-  -- a port can't be bound, or a connection that is a stream can't be accepted, or not in time
+  -- a place can't be bound, or a connection that is a stream can't be accepted, or not in time
   NetworkFailure : Failure
 
 pub data Ending : Type 0 where
@@ -215,8 +226,8 @@ pub record IsTextOfAccepted (document : Inquiry) (G : Source → Type 0) (IsSaid
   pub none_refused : (fault : DocumentFault) → IsRefusedDocument document fault → inputs ≡ []
   pub is_text : IsTextOfStreams document inputs IsSaid text
 
--- Not all ports may be bound and connections accepted: the network may fail, or they are waited for no longer than some
--- seconds.
+-- Not all places may be bound and connections accepted: the network may fail, or they are waited for no longer than
+-- some seconds.
 abbrev pub ServiceMayFail : (wait : Option ℕ) (network_serves : Bool) → Type 0
 ServiceMayFail wait network_serves = wait ≡ None → network_serves ≡ true → ⊥
 
@@ -224,17 +235,17 @@ ServiceMayFail wait network_serves = wait ≡ None → network_serves ≡ true �
 abbrev pub HoldsDocument : Inquiry → Type 0
 HoldsDocument inquiry = (document : Document) × IsDocument inquiry document
 
--- The same of streams that come by connections. If a port can't be bound, or a stream not be accepted, or not in time:
--- nothing; and that comes only of a document that isn't refused. If the session is to be kept, and can't be: nothing,
--- in the same way, or all of the report.
-abbrev pub OfConnections : (G : Source → Type 0) (MayNotServe IsKept : Type 0) (fail_on : List Condition) → Inquiry
+-- The same of streams that come by connections. If a place can't be bound, or a stream not be accepted, or not in time:
+-- nothing; and that comes only of a document that isn't refused. If something is to be written to other files, as where
+-- the session is kept, and can't be: nothing, in the same way, or all of the report.
+abbrev pub OfConnections : (G : Source → Type 0) (MayNotServe WritesFiles : Type 0) (fail_on : List Condition) → Inquiry
     → Ending → (old new : Option (List ℕ)) → Type 0
-OfConnections G MayNotServe IsKept fail_on inquiry (Failed NetworkFailure) old new =
+OfConnections G MayNotServe WritesFiles fail_on inquiry (Failed NetworkFailure) old new =
     MayNotServe × HoldsDocument inquiry × Keeps old new
-OfConnections G MayNotServe IsKept fail_on inquiry (Failed WriteFailure) old new =
+OfConnections G MayNotServe WritesFiles fail_on inquiry (Failed WriteFailure) old new =
     WritesUpTo (IsTextOfAccepted inquiry G IsAnyReport) old new
-    ⊎ (IsKept × HoldsDocument inquiry × Keeps old new)
-OfConnections G MayNotServe IsKept fail_on inquiry ending old new =
+    ⊎ (WritesFiles × HoldsDocument inquiry × Keeps old new)
+OfConnections G MayNotServe WritesFiles fail_on inquiry ending old new =
     OfReport (IsTextOfAccepted inquiry G) fail_on ending old new
 
 -- P holds of the bytes of a report, which are all that its source had left, and not too many.

@@ -12,6 +12,10 @@ or_none_ever [] = record { name = None; kind = Never } ∷ []
 or_none_ever (wish ∷ wishes) = wish ∷ wishes
 
 -- what is wished by the names of three options
+abbrev pub named_wishes : (never always sometimes : List (List ℕ)) → List Wish
+named_wishes never always sometimes =
+    wishes_for Never never ++ wishes_for Always always ++ wishes_for Sometimes sometimes
+
+-- the same, or that no predicate ever holds, if they have no name
 abbrev pub wishes_of : (never always sometimes : List (List ℕ)) → List Wish
-wishes_of never always sometimes =
-    or_none_ever (wishes_for Never never ++ wishes_for Always always ++ wishes_for Sometimes sometimes)
+wishes_of never always sometimes = or_none_ever (named_wishes never always sometimes)

@@ -1,26 +1,29 @@
 //! What the arguments ask for, by what the command line's parser finds in them.
-ghost use Rattle.clap.specs.Matches.{found_of};
 ghost use Rattle.clap.specs.Simple.{app_of, subcommand_of, subcommand_rows_of};
 ghost use Rattle.clap.specs.Values.{kind_of};
-ghost use Rattle.clap.specs.Walk.{Text, all_of, rows_of};
-ghost use Rattle.app_arguments.specs.Arguments.{AreOf, AreTaken, FindsConditions, FindsExtent, FindsFormat, FindsSession, FindsScope, IsErrorOf, IsFormatOf, IsNumberText, IsPort, IsShownKind, NamesConditions, NamesNumber, NamesOptions, NamesRuns, NamesWait, NamesWidth, NamesWorkers, SaysBeyondWidth, SaysFlag, extent_by, kind_text, monitor_app, texts_of};
+ghost use Rattle.clap.specs.Walk.{Text, all_of, first_of};
+ghost use Rattle.app_arguments.specs.Arguments.{AreConditions, AreTaken, IsAddressText, IsFormatOf, IsNumberText, IsPlace, IsShownKind, MayNameNumber, NamesAllOptions, NamesExtent, NamesKind, NamesNumber, NamesOptions, NamesPage, NamesScope, NamesService, NamesSession, NamesWorkers, SaysFlag, kind_text, texts_of};
 ghost use Rattle.app_arguments.specs.ConditionViews.{fail_on_view};
 ghost use Rattle.app_arguments.specs.Formats as written;
-ghost use Rattle.app_arguments.specs.Views.{FindsJudgement, IsAsked, IsAskedIf, format_view, names_view, session_view};
+ghost use Rattle.app_arguments.specs.Places as places;
+ghost use Rattle.app_arguments.specs.Table.{monitor_app, port_limit, watcher_limit};
+ghost use Rattle.app_arguments.specs.Views.{Finds, FindsJudgement, FindsRequest, FindsService, IsAsked, IsAskedIf, IsErrorOf, extent_by, format_view, names_view, page_view, place_view, rows_in, session_view, text_view};
+ghost use Rattle.app_arguments.specs.Wishes.{named_wishes, wishes_of};
 ghost use Rattle.judge_runs.specs.Views.{wishes_view};
-ghost use Rattle.app_arguments.specs.Wishes.{wishes_of};
-ghost use Rattle.pd_spec.specs.Views.{options_view};
-ghost use Rattle.out_picture.specs.Scopes.{scope_view};
+ghost use Rattle.out_picture.specs.Scopes.{Scope, scope_view};
+ghost use Rattle.out_picture.specs.declared.extent.Extent as extents;
 ghost use Rattle.out_picture.specs.declared.kind.Kind as kinds;
-ghost use Rattle.std.specs.Prelude.{◌≡◌, ◌≢◌, ℕ, IfErr, IfOk, IfSome, List, MatchOption, None, codes, false, map, option_map, true};
+ghost use Rattle.pd_spec.specs.Views.{options_view};
+ghost use Rattle.std.specs.Prelude.{◌≡◌, ◌≢◌, ◌≤◌, ℕ, IfErr, IfOk, IfSome, List, MatchOption, None, Option, Some, codes, false, map, option_map, true};
 
-use super::commands::{
-    EXTENT_USAGE, FORMAT_USAGE, KIND_USAGE, LIST_USAGE, PORT_LIMIT, WATCHER_LIMIT, program_command,
-};
+use super::commands::program_command;
 use super::fail_on::FailOn;
 use super::format::Format;
-use super::request::{Judgement, Request, Service, SessionNames, Test};
-use super::wishes::wishes_of;
+use super::help::{EXTENT_USAGE, FORMAT_USAGE, KIND_USAGE, LIST_USAGE, PLACE_USAGE};
+use super::place::Place;
+use super::request::{Judgement, PageOptions, Request, Service, SessionNames, Test};
+use super::table::{PORT_LIMIT, WATCHER_LIMIT};
+use super::wishes::{named_wishes, wishes_of};
 use super::workers::Workers;
 use clap::error::ErrorKind;
 use clap::{ArgMatches, Command, Error};
@@ -28,6 +31,29 @@ use judge_runs::Wish;
 use out_picture::{DrawOptions, Extent, Kind};
 use pd_spec::Options;
 use std::alloc::{AllocError, Global};
+use std::net::IpAddr;
+
+/// The text of an option, or of an argument at its place.
+fn text_of<'a>(matches: &ArgMatches<'a>, id: &str) -> Option<&'a str>
+    ensures { text_view result ≡ first_of id.now (rows_in matches.now) }
+{
+    matches.get_str(id)
+}
+
+/// The texts of an argument that may have several, if it is given.
+fn names_of<'a>(
+    alloc: Global,
+    matches: &ArgMatches<'a>,
+    id: &str,
+) -> Result<Option<Vec<&'a str>>, AllocError>
+    ensures { IfOk result (λ found. option_map (λ names. names_view names.items) found
+        ≡ all_of id.now (rows_in matches.now)) }
+{
+    let Some(names) = matches.get_strs(id) else {
+        return Ok(None);
+    };
+    Ok(Some(names.to_vec(alloc)?))
+}
 
 /// The texts of an option that may be given again and again.
 fn texts_of<'a>(
@@ -35,248 +61,12 @@ fn texts_of<'a>(
     matches: &ArgMatches<'a>,
     id: &str,
 ) -> Result<Vec<&'a str>, AllocError>
-    ensures { IfOk result (λ texts. names_view texts.items ≡ texts_of (rows_of (found_of matches.now)) id.now) }
+    ensures { IfOk result (λ texts. names_view texts.items ≡ texts_of (rows_in matches.now) id.now) }
 {
-    let Some(texts) = matches.get_strs(id) else {
-        return Ok(Vec::new(alloc));
-    };
-    let texts = texts.to_vec(alloc)?;
-    Ok(texts)
-}
-
-/// The width that is asked for, if one is.
-fn width_of(matches: &ArgMatches<'_>) -> Option<u64>
-    ensures { NamesWidth (rows_of (found_of matches.now)) result }
-{
-    number_of(matches, "WIDTH")
-}
-
-/// How many seconds the streams are waited for, if that is asked for.
-fn wait_of(matches: &ArgMatches<'_>) -> Option<u64>
-    ensures { NamesWait (rows_of (found_of matches.now)) result }
-{
-    number_of(matches, "SECONDS")
-}
-
-/// What is asked beside the document, and whether what is decided whatever the width is.
-fn options_of<'a>(
-    alloc: Global,
-    matches: &ArgMatches<'a>,
-    beyond_width: bool,
-) -> Result<Options<'a>, AllocError>
-    ensures options { IfOk result (λ options. NamesOptions (rows_of (found_of matches.now)) (options_view options)) }
-    ensures beyond { IfOk result (λ options. options.beyond_width ≡ beyond_width) }
-{
-    let predicates = texts_of(alloc, matches, "TEXT")?;
-    Ok(Options {
-        width: width_of(matches),
-        predicates,
-        beyond_width,
-    })
-}
-
-/// The names of a session's files, if all are there, and what is asked of it.
-fn session_names<'a>(
-    alloc: Global,
-    matches: &ArgMatches<'a>,
-    beyond_width: bool,
-) -> Result<Option<SessionNames<'a>>, AllocError>
-    ensures names { IfOk result (λ names.
-        FindsSession (rows_of (found_of matches.now)) (option_map session_view names)) }
-    ensures options { IfOk result (λ names. IfSome names (λ names.
-        NamesOptions (rows_of (found_of matches.now)) (options_view names.options))) }
-    ensures beyond { IfOk result (λ names. IfSome names (λ names. names.options.beyond_width ≡ beyond_width)) }
-{
-    let (Some(spec), Some(streams)) = (matches.get_str("SPEC"), matches.get_strs("STREAM")) else {
-        return Ok(None);
-    };
-    Ok(Some(SessionNames {
-        spec,
-        streams: streams.to_vec(alloc)?,
-        options: options_of(alloc, matches, beyond_width)?,
-    }))
-}
-
-/// What a judgement of files is asked for, if all names are there.
-fn judgement_of<'a>(
-    alloc: Global,
-    matches: &ArgMatches<'a>,
-) -> Result<Option<Judgement<'a>>, AllocError>
-    ensures { IfOk result (FindsJudgement (rows_of (found_of matches.now))) }
-{
-    let Some(workers) = workers_of(matches) else {
-        return Ok(None);
-    };
-    let beyond_width = flag_of(matches, "BEYOND_WIDTH");
-    let Some(names) = session_names(alloc, matches, beyond_width)? else {
-        return Ok(None);
-    };
-    let Some(fail_on) = conditions_of(alloc, matches)? else {
-        return Ok(None);
-    };
-    Ok(Some(Judgement {
-        names,
-        fail_on,
-        workers,
-    }))
-}
-
-/// The format of this word, or lines of text if there is no word, unless it is no format's.
-fn format_by(word: Option<&str>) -> Option<Format>
-    ensures { MatchOption result
-        ((format : written.Format) → ¬ IsFormatOf (option_map (λ word. word.now) word.entry) format)
-        (λ format. IsFormatOf (option_map (λ word. word.now) word.entry) (format_view format)) }
-{
-    let Some(word) = word else {
-        return Some(Format::Plain);
-    };
-    if is(word.as_bytes(), "text") {
-        return Some(Format::Plain);
+    match names_of(alloc, matches, id)? {
+        Some(texts) => Ok(texts),
+        None => Ok(Vec::new(alloc)),
     }
-    if is(word.as_bytes(), "json") {
-        return Some(Format::Json);
-    }
-    None
-}
-
-/// The format of the report, if its option has the word of one or isn't given.
-fn format_of(matches: &ArgMatches<'_>) -> Option<Format>
-    ensures { FindsFormat (rows_of (found_of matches.now)) (option_map format_view result) }
-{
-    format_by(matches.get_str("FORMAT"))
-}
-
-/// What the arguments of `judge` ask for, if all names are there.
-fn judge_request<'a>(
-    alloc: Global,
-    matches: &ArgMatches<'a>,
-) -> Result<Option<Request<'a>>, AllocError>
-    ensures { IfOk result (λ request. (arguments : List Text) → AreTaken arguments
-        → AreOf (codes "judge") arguments (rows_of (found_of matches.now))
-        → IsAskedIf arguments request) }
-{
-    let Some(judgement) = judgement_of(alloc, matches)? else {
-        return Ok(None);
-    };
-    let Some(format) = format_of(matches) else {
-        return Ok(None);
-    };
-    Ok(Some(Request::Judge(judgement, format)))
-}
-
-/// What the arguments of `check` ask for, if all names are there.
-fn check_request<'a>(
-    alloc: Global,
-    matches: &ArgMatches<'a>,
-) -> Result<Option<Request<'a>>, AllocError>
-    ensures { IfOk result (λ request. (arguments : List Text) → AreTaken arguments
-        → AreOf (codes "check") arguments (rows_of (found_of matches.now))
-        → IsAskedIf arguments request) }
-{
-    let Some(report) = matches.get_str("REPORT") else {
-        return Ok(None);
-    };
-    let Some(names) = session_names(alloc, matches, false)? else {
-        return Ok(None);
-    };
-    Ok(Some(Request::Check(report, names)))
-}
-
-/// Whether the bytes are this text.
-fn is(word: &[u8], text: &str) -> bool
-    ensures yes { result ≡ true → word.now ≡ text.now }
-    ensures no { result ≡ false → ¬ (word.now ≡ text.now) }
-{
-    word == text.as_bytes()
-}
-
-/// The kind of evidence of this word, if it is one's.
-fn kind_of(word: &[u8]) -> Option<Kind>
-    ensures { MatchOption result ((kind : kinds.Kind) → ¬ (word.now ≡ kind_text kind))
-        (λ kind. word.now ≡ kind_text kind) }
-{
-    if is(word, "possibly") {
-        return Some(Kind::Possibly);
-    }
-    if is(word, "definitely") {
-        return Some(Kind::Definitely);
-    }
-    None
-}
-
-/// How much of a run is asked for by the number of a column, if there is one, and by the flag, unless both are given.
-fn extent_by(column: Option<u64>, all: bool) -> Option<Extent>
-    ensures { result ≡ extent_by column all }
-{
-    match column {
-        None => {
-            if all {
-                Some(Extent::All)
-            } else {
-                Some(Extent::Around)
-            }
-        }
-        Some(column) => {
-            if all {
-                None
-            } else {
-                Some(Extent::From(column))
-            }
-        }
-    }
-}
-
-/// How much of a run is asked for, unless it is all columns and those from one on.
-fn extent_of(matches: &ArgMatches<'_>) -> Option<Extent>
-    ensures { FindsExtent (rows_of (found_of matches.now)) result }
-{
-    extent_by(number_of(matches, "COLUMN"), flag_of(matches, "ALL"))
-}
-
-/// What is asked of a picture, if it is something that could be.
-fn scope_of<'a>(matches: &ArgMatches<'a>) -> Option<DrawOptions<'a>>
-    ensures { FindsScope (rows_of (found_of matches.now)) (option_map scope_view result) }
-{
-    let predicate = matches.get_str("PREDICATE");
-    let Some(extent) = extent_of(matches) else {
-        return None;
-    };
-    let Some(word) = matches.get_str("KIND") else {
-        return Some(DrawOptions {
-            predicate,
-            kind: None,
-            extent,
-        });
-    };
-    let Some(kind) = kind_of(word.as_bytes()) else {
-        return None;
-    };
-    Some(DrawOptions {
-        predicate,
-        kind: Some(kind),
-        extent,
-    })
-}
-
-/// What the arguments of `draw` ask for, if all names of files are there, and the picture is one that could be.
-fn draw_request<'a>(
-    alloc: Global,
-    matches: &ArgMatches<'a>,
-) -> Result<Option<Request<'a>>, AllocError>
-    ensures { IfOk result (λ request. (arguments : List Text) → AreTaken arguments
-        → AreOf (codes "draw") arguments (rows_of (found_of matches.now))
-        → IsAskedIf arguments request) }
-{
-    let Some(scope) = scope_of(matches) else {
-        return Ok(None);
-    };
-    let Some(report) = matches.get_str("REPORT") else {
-        return Ok(None);
-    };
-    let Some(names) = session_names(alloc, matches, false)? else {
-        return Ok(None);
-    };
-    Ok(Some(Request::Draw(report, scope, names)))
 }
 
 /// The number that this text is, if it is one of 64 bits.
@@ -292,19 +82,24 @@ fn number_in(text: &str) -> Option<u64>
 
 /// The number of an option, if it has one.
 fn number_of(matches: &ArgMatches<'_>, id: &str) -> Option<u64>
-    ensures some { IfSome result (NamesNumber (rows_of (found_of matches.now)) id.now) }
-    ensures none { result ≡ None → (n : ℕ) → ¬ NamesNumber (rows_of (found_of matches.now)) id.now n }
+    ensures { MayNameNumber (rows_in matches.now) id.now result }
 {
-    let Some(text) = matches.get_str(id) else {
+    let Some(text) = text_of(matches, id) else {
         return None;
     };
     number_in(text)
 }
 
+/// Whether the flag of this id is given.
+fn flag_of(matches: &ArgMatches<'_>, id: &str) -> bool
+    ensures { SaysFlag (rows_in matches.now) id.now result }
+{
+    matches.get_one::<bool>(id).unwrap_or(false)
+}
+
 /// The number of workers, if it is one from 1 to 16.
 fn workers_of(matches: &ArgMatches<'_>) -> Option<Workers>
-    ensures some { IfSome result (λ workers. NamesWorkers (rows_of (found_of matches.now)) workers.number) }
-    ensures none { result ≡ None → (n : ℕ) → ¬ NamesWorkers (rows_of (found_of matches.now)) n }
+    ensures { Finds (NamesWorkers (rows_in matches.now)) (λ workers. workers.number) result }
 {
     let Some(number) = number_of(matches, "WORKERS") else {
         return None;
@@ -312,79 +107,328 @@ fn workers_of(matches: &ArgMatches<'_>) -> Option<Workers>
     Workers::of(number)
 }
 
+/// What is asked beside the document, and whether what is decided whatever the width is.
+fn options_of<'a>(
+    alloc: Global,
+    matches: &ArgMatches<'a>,
+    beyond_width: bool,
+) -> Result<Options<'a>, AllocError>
+    ensures options { IfOk result (λ options. NamesOptions (rows_in matches.now) (options_view options)) }
+    ensures beyond { IfOk result (λ options. options.beyond_width ≡ beyond_width) }
+{
+    Ok(Options {
+        width: number_of(matches, "WIDTH"),
+        predicates: texts_of(alloc, matches, "TEXT")?,
+        beyond_width,
+    })
+}
+
+/// What is asked beside the document, with what its flag says.
+fn all_options<'a>(alloc: Global, matches: &ArgMatches<'a>) -> Result<Options<'a>, AllocError>
+    ensures { IfOk result (λ options. NamesAllOptions (rows_in matches.now) (options_view options)) }
+{
+    options_of(alloc, matches, flag_of(matches, "BEYOND_WIDTH"))
+}
+
 /// The conditions on which a judgement is to fail, if what is given is a list of them.
 fn conditions_of<'a>(
     alloc: Global,
     matches: &ArgMatches<'a>,
 ) -> Result<Option<FailOn<'a>>, AllocError>
-    ensures { IfOk result (λ found. FindsConditions (rows_of (found_of matches.now)) (option_map fail_on_view found)) }
+    ensures { IfOk result (Finds (AreConditions (first_of (codes "LIST") (rows_in matches.now))) fail_on_view) }
 {
-    let Some(list) = matches.get_str("LIST") else {
+    let Some(list) = text_of(matches, "LIST") else {
         return Ok(Some(FailOn::nothing(alloc)));
     };
     FailOn::of(alloc, list)
 }
 
-/// Whether the flag of this id is given.
-fn flag_of(matches: &ArgMatches<'_>, id: &str) -> bool
-    ensures { SaysFlag (rows_of (found_of matches.now)) id.now result }
-{
-    matches.get_one::<bool>(id).unwrap_or(false)
-}
-
-/// The port of this number, unless it is 0 or the last one.
-fn port_of(number: u64) -> Option<u16>
-    ensures same { IfSome result (λ port. port ≡ number) }
-    ensures in_range { IfSome result IsPort }
-    ensures none { result ≡ None → ¬ IsPort number }
-{
-    if number < 1 || number > PORT_LIMIT {
-        return None;
-    }
-    Some(number as u16)
-}
-
-/// What the arguments of `serve` ask for with these conditions, if all else is there.
-fn service_request<'a>(
+/// The names of a session's files, with what is asked of it, if all are there.
+fn session_names<'a>(
+    alloc: Global,
     matches: &ArgMatches<'a>,
     options: Options<'a>,
-    fail_on: FailOn<'a>,
-) -> Option<Request<'a>>
-    ensures { (arguments : List Text) → AreTaken arguments
-        → AreOf (codes "serve") arguments (rows_of (found_of matches.now))
-        → NamesOptions (rows_of (found_of matches.now)) (options_view options.entry)
-        → SaysBeyondWidth (rows_of (found_of matches.now)) options.entry.beyond_width
-        → NamesConditions (rows_of (found_of matches.now)) (fail_on_view fail_on.entry)
-        → IsAskedIf arguments result }
+) -> Result<Option<SessionNames<'a>>, AllocError>
+    ensures names { IfOk result (λ names. IfSome names (λ names.
+        NamesSession (rows_in matches.now) (session_view names).0 (session_view names).1)) }
+    ensures options { IfOk result (λ names. IfSome names (λ names.
+        options_view names.options ≡ options_view options.entry)) }
+    ensures none { IfOk result (λ names. names ≡ None → (document : Text) (streams : List Text)
+        → ¬ NamesSession (rows_in matches.now) document streams) }
 {
-    let Some(spec) = matches.get_str("SPEC") else {
-        return None;
+    let Some(spec) = text_of(matches, "SPEC") else {
+        return Ok(None);
     };
-    let Some(number) = number_of(matches, "PORT") else {
-        return None;
+    let Some(streams) = names_of(alloc, matches, "STREAM")? else {
+        return Ok(None);
     };
-    let Some(port) = port_of(number) else {
-        return None;
-    };
-    let Some(watchers) = number_of(matches, "WATCHERS") else {
-        return None;
-    };
-    if watchers > WATCHER_LIMIT {
-        return None;
-    }
-    let Some(workers) = workers_of(matches) else {
-        return None;
-    };
-    Some(Request::Serve(Service {
+    Ok(Some(SessionNames {
         spec,
+        streams,
         options,
-        port,
-        watchers,
-        wait: wait_of(matches),
-        keep: matches.get_str("FOLDER"),
+    }))
+}
+
+/// What a judgement of files is asked for, if all names are there.
+fn judgement_of<'a>(
+    alloc: Global,
+    matches: &ArgMatches<'a>,
+) -> Result<Option<Judgement<'a>>, AllocError>
+    ensures { IfOk result (FindsJudgement (rows_in matches.now)) }
+{
+    let Some(workers) = workers_of(matches) else {
+        return Ok(None);
+    };
+    let options = all_options(alloc, matches)?;
+    let Some(names) = session_names(alloc, matches, options)? else {
+        return Ok(None);
+    };
+    let Some(fail_on) = conditions_of(alloc, matches)? else {
+        return Ok(None);
+    };
+    Ok(Some(Judgement {
+        names,
         fail_on,
         workers,
     }))
+}
+
+/// Whether the bytes are this text.
+fn is(word: &[u8], text: &str) -> bool
+    ensures yes { result ≡ true → word.now ≡ text.now }
+    ensures no { result ≡ false → ¬ (word.now ≡ text.now) }
+{
+    word == text.as_bytes()
+}
+
+/// The format of this word, or lines of text if there is no word, unless it is no format's.
+fn format_by(word: Option<&str>) -> Option<Format>
+    ensures { Finds (IsFormatOf (text_view word.entry)) format_view result }
+{
+    let Some(word) = word else {
+        return Some(Format::Plain);
+    };
+    if is(word.as_bytes(), "text") {
+        return Some(Format::Plain);
+    }
+    if is(word.as_bytes(), "json") {
+        return Some(Format::Json);
+    }
+    None
+}
+
+/// The format of the report, if its option has the word of one or isn't given.
+fn format_of(matches: &ArgMatches<'_>) -> Option<Format>
+    ensures { Finds (IsFormatOf (first_of (codes "FORMAT") (rows_in matches.now))) format_view result }
+{
+    format_by(text_of(matches, "FORMAT"))
+}
+
+/// What the arguments of `judge` ask for, if all names are there.
+fn judge_request<'a>(
+    alloc: Global,
+    matches: &ArgMatches<'a>,
+) -> Result<Option<Request<'a>>, AllocError>
+    ensures { IfOk result (FindsRequest (codes "judge") (rows_in matches.now)) }
+{
+    let Some(judgement) = judgement_of(alloc, matches)? else {
+        return Ok(None);
+    };
+    let Some(format) = format_of(matches) else {
+        return Ok(None);
+    };
+    Ok(Some(Request::Judge(judgement, format)))
+}
+
+/// What the arguments of `check` ask for, if all names are there.
+fn check_request<'a>(
+    alloc: Global,
+    matches: &ArgMatches<'a>,
+) -> Result<Option<Request<'a>>, AllocError>
+    ensures { IfOk result (FindsRequest (codes "check") (rows_in matches.now)) }
+{
+    let Some(report) = text_of(matches, "REPORT") else {
+        return Ok(None);
+    };
+    let options = options_of(alloc, matches, false)?;
+    let Some(names) = session_names(alloc, matches, options)? else {
+        return Ok(None);
+    };
+    Ok(Some(Request::Check(report, names)))
+}
+
+/// The kind of evidence of this word, or none if there is no word, unless it is no kind's.
+fn kind_by(word: Option<&str>) -> Option<Option<Kind>>
+    ensures { Finds (NamesKind (text_view word.entry)) (λ kind. kind) result }
+{
+    let Some(word) = word else {
+        return Some(None);
+    };
+    if is(word.as_bytes(), "possibly") {
+        return Some(Some(Kind::Possibly));
+    }
+    if is(word.as_bytes(), "definitely") {
+        return Some(Some(Kind::Definitely));
+    }
+    None
+}
+
+/// How much of a run is asked for by the number of a column, if there is one, and by the flag, unless both are given.
+fn extent_by(column: Option<u64>, all: bool) -> Option<Extent>
+    ensures { result ≡ extent_by column all }
+{
+    match (column, all) {
+        (None, false) => Some(Extent::Around),
+        (None, true) => Some(Extent::All),
+        (Some(column), false) => Some(Extent::From(column)),
+        (Some(_), true) => None,
+    }
+}
+
+/// How much of a run is asked for, unless it is all columns and those from one on.
+fn extent_of(matches: &ArgMatches<'_>) -> Option<Extent>
+    ensures { Finds (NamesExtent (rows_in matches.now)) (λ extent. extent) result }
+{
+    extent_by(number_of(matches, "COLUMN"), flag_of(matches, "ALL"))
+}
+
+/// What is asked of a picture, if it is something that could be.
+fn scope_of<'a>(matches: &ArgMatches<'a>) -> Option<DrawOptions<'a>>
+    ensures { Finds (NamesScope (rows_in matches.now)) scope_view result }
+{
+    let Some(extent) = extent_of(matches) else {
+        return None;
+    };
+    let Some(kind) = kind_by(text_of(matches, "KIND")) else {
+        return None;
+    };
+    Some(DrawOptions {
+        predicate: text_of(matches, "PREDICATE"),
+        kind,
+        extent,
+    })
+}
+
+/// What the arguments of `draw` ask for, if all names of files are there, and the picture is one that could be.
+fn draw_request<'a>(
+    alloc: Global,
+    matches: &ArgMatches<'a>,
+) -> Result<Option<Request<'a>>, AllocError>
+    ensures { IfOk result (FindsRequest (codes "draw") (rows_in matches.now)) }
+{
+    let Some(scope) = scope_of(matches) else {
+        return Ok(None);
+    };
+    let Some(report) = text_of(matches, "REPORT") else {
+        return Ok(None);
+    };
+    let options = options_of(alloc, matches, false)?;
+    let Some(names) = session_names(alloc, matches, options)? else {
+        return Ok(None);
+    };
+    Ok(Some(Request::Draw(report, scope, names)))
+}
+
+/// Whether the text is one of an IP address.
+fn is_address(text: &str) -> bool
+    ensures yes { result ≡ true → IsAddressText text.now }
+    ensures no { result ≡ false → ¬ IsAddressText text.now }
+{
+    IpAddr::parse_ascii(text.as_bytes()).is_ok()
+}
+
+/// Whether there is no text, or one of an IP address.
+fn may_be_address(text: Option<&str>) -> bool
+    ensures yes { result ≡ true → IfSome (text_view text.entry) IsAddressText }
+    ensures no { result ≡ false → ¬ IfSome (text_view text.entry) IsAddressText }
+{
+    match text {
+        Some(text) => is_address(text),
+        None => true,
+    }
+}
+
+/// The place of this port, unless it is the last one, with this address and the name of a file for the port.
+fn port_place<'a>(number: u64, address: Option<&'a str>, file: Option<&str>) -> Option<Place<'a>>
+    ensures { MatchOption result
+        (¬ ((number ≤ port_limit) × (number ≡ 0 → text_view file.entry ≢ None)
+        × IfSome (text_view address.entry) IsAddressText))
+        (λ place. (place_view place ≡ places.OnPort (text_view address.entry) number) × (number ≤ port_limit)
+        × (number ≡ 0 → text_view file.entry ≢ None) × IfSome (text_view address.entry) IsAddressText) }
+{
+    if number > PORT_LIMIT || (number == 0 && file.is_none()) || !may_be_address(address) {
+        return None;
+    }
+    Some(Place::Port(address, number as u16))
+}
+
+/// The place where a server accepts connections, if one is named, and nothing beside it that it hasn't.
+fn place_of<'a>(matches: &ArgMatches<'a>) -> Option<Place<'a>>
+    ensures { Finds (IsPlace (rows_in matches.now) (first_of (codes "ADDRESS") (rows_in matches.now))
+        (first_of (codes "PATH") (rows_in matches.now)) (first_of (codes "PORT_FILE") (rows_in matches.now)))
+        place_view result }
+{
+    let address = text_of(matches, "ADDRESS");
+    let file = text_of(matches, "PORT_FILE");
+    let Some(path) = text_of(matches, "PATH") else {
+        let Some(number) = number_of(matches, "PORT") else {
+            return None;
+        };
+        return port_place(number, address, file);
+    };
+    if text_of(matches, "PORT").is_some() || address.is_some() || file.is_some() {
+        return None;
+    }
+    Some(Place::Socket(path))
+}
+
+/// The number of watchers, if it is at most 64.
+fn watchers_of(matches: &ArgMatches<'_>) -> Option<u64>
+    ensures { Finds (λ n. NamesNumber (rows_in matches.now) (codes "WATCHERS") n × (n ≤ watcher_limit)) (λ n. n)
+        result }
+{
+    let Some(number) = number_of(matches, "WATCHERS") else {
+        return None;
+    };
+    if number > WATCHER_LIMIT {
+        return None;
+    }
+    Some(number)
+}
+
+/// What a server with these options and conditions is asked for, if all else is there.
+fn service_of<'a>(
+    matches: &ArgMatches<'a>,
+    options: Options<'a>,
+    fail_on: FailOn<'a>,
+) -> Option<Service<'a>>
+    ensures found { FindsService (rows_in matches.now) result }
+    ensures options { IfSome result (λ service. options_view service.options ≡ options_view options.entry) }
+    ensures conditions { IfSome result (λ service. fail_on_view service.fail_on ≡ fail_on_view fail_on.entry) }
+{
+    let Some(spec) = text_of(matches, "SPEC") else {
+        return None;
+    };
+    let Some(place) = place_of(matches) else {
+        return None;
+    };
+    let Some(watchers) = watchers_of(matches) else {
+        return None;
+    };
+    let Some(workers) = workers_of(matches) else {
+        return None;
+    };
+    Some(Service {
+        spec,
+        options,
+        place,
+        port_file: text_of(matches, "PORT_FILE"),
+        watchers,
+        wait: number_of(matches, "SECONDS"),
+        keep: text_of(matches, "FOLDER"),
+        fail_on,
+        workers,
+    })
 }
 
 /// What the arguments of `serve` ask for, if all are there.
@@ -392,16 +436,30 @@ fn serve_request<'a>(
     alloc: Global,
     matches: &ArgMatches<'a>,
 ) -> Result<Option<Request<'a>>, AllocError>
-    ensures { IfOk result (λ request. (arguments : List Text) → AreTaken arguments
-        → AreOf (codes "serve") arguments (rows_of (found_of matches.now))
-        → IsAskedIf arguments request) }
+    ensures { IfOk result (FindsRequest (codes "serve") (rows_in matches.now)) }
 {
     let Some(fail_on) = conditions_of(alloc, matches)? else {
         return Ok(None);
     };
-    let beyond_width = flag_of(matches, "BEYOND_WIDTH");
-    let options = options_of(alloc, matches, beyond_width)?;
-    Ok(service_request(matches, options, fail_on))
+    let options = all_options(alloc, matches)?;
+    let Some(service) = service_of(matches, options, fail_on) else {
+        return Ok(None);
+    };
+    Ok(Some(Request::Serve(service)))
+}
+
+/// What is asked of a page.
+fn page_of<'a>(alloc: Global, matches: &ArgMatches<'a>) -> Result<PageOptions<'a>, AllocError>
+    ensures { IfOk result (λ page. NamesPage (rows_in matches.now) (page_view page)) }
+{
+    let never = texts_of(alloc, matches, "NEVER")?;
+    let always = texts_of(alloc, matches, "ALWAYS")?;
+    let sometimes = texts_of(alloc, matches, "SOMETIMES")?;
+    Ok(PageOptions {
+        wishes: named_wishes(alloc, &never, &always, &sometimes)?,
+        notes: texts_of(alloc, matches, "NOTES")?,
+        link: text_of(matches, "PATTERN"),
+    })
 }
 
 /// What the arguments of `explore` ask for, if all names are there.
@@ -409,22 +467,21 @@ fn explore_request<'a>(
     alloc: Global,
     matches: &ArgMatches<'a>,
 ) -> Result<Option<Request<'a>>, AllocError>
-    ensures { IfOk result (λ request. (arguments : List Text) → AreTaken arguments
-        → AreOf (codes "explore") arguments (rows_of (found_of matches.now))
-        → IsAskedIf arguments request) }
+    ensures { IfOk result (FindsRequest (codes "explore") (rows_in matches.now)) }
 {
     let Some(judgement) = judgement_of(alloc, matches)? else {
         return Ok(None);
     };
-    Ok(Some(Request::Explore(judgement)))
+    let page = page_of(alloc, matches)?;
+    Ok(Some(Request::Explore(judgement, page)))
 }
 
 /// What is wished of the predicates of recorded runs.
 fn wished_of<'a>(alloc: Global, matches: &ArgMatches<'a>) -> Result<Vec<Wish<'a>>, AllocError>
     ensures { IfOk result (λ wishes. wishes_view wishes.items ≡ wishes_of
-        (texts_of (rows_of (found_of matches.now)) (codes "NEVER"))
-        (texts_of (rows_of (found_of matches.now)) (codes "ALWAYS"))
-        (texts_of (rows_of (found_of matches.now)) (codes "SOMETIMES"))) }
+        (texts_of (rows_in matches.now) (codes "NEVER"))
+        (texts_of (rows_in matches.now) (codes "ALWAYS"))
+        (texts_of (rows_in matches.now) (codes "SOMETIMES"))) }
 {
     let never = texts_of(alloc, matches, "NEVER")?;
     let always = texts_of(alloc, matches, "ALWAYS")?;
@@ -432,29 +489,14 @@ fn wished_of<'a>(alloc: Global, matches: &ArgMatches<'a>) -> Result<Vec<Wish<'a>
     wishes_of(alloc, &never, &always, &sometimes)
 }
 
-/// The names of the folders of recorded runs, if there are any.
-fn runs_of<'a>(alloc: Global, matches: &ArgMatches<'a>) -> Result<Option<Vec<&'a str>>, AllocError>
-    ensures { IfOk result (λ runs. MatchOption runs
-        ((names : List Text) → ¬ NamesRuns (rows_of (found_of matches.now)) names)
-        (λ runs. NamesRuns (rows_of (found_of matches.now)) (names_view runs.items))) }
-{
-    let Some(names) = matches.get_strs("RUN") else {
-        return Ok(None);
-    };
-    let runs = names.to_vec(alloc)?;
-    Ok(Some(runs))
-}
-
 /// What the arguments of `test` ask for, if a run is named.
 fn test_request<'a>(
     alloc: Global,
     matches: &ArgMatches<'a>,
 ) -> Result<Option<Request<'a>>, AllocError>
-    ensures { IfOk result (λ request. (arguments : List Text) → AreTaken arguments
-        → AreOf (codes "test") arguments (rows_of (found_of matches.now))
-        → IsAskedIf arguments request) }
+    ensures { IfOk result (FindsRequest (codes "test") (rows_in matches.now)) }
 {
-    let Some(runs) = runs_of(alloc, matches)? else {
+    let Some(runs) = names_of(alloc, matches, "RUN")? else {
         return Ok(None);
     };
     let Some(workers) = workers_of(matches) else {
@@ -470,6 +512,25 @@ fn test_request<'a>(
     })))
 }
 
+/// What is asked for by the command of this name, by what the parser found, if that names anything.
+fn request_by_command<'a>(
+    alloc: Global,
+    name: &str,
+    matches: &ArgMatches<'a>,
+) -> Result<Option<Request<'a>>, AllocError>
+    ensures { IfOk result (FindsRequest name.now (rows_in matches.now)) }
+{
+    match name {
+        "judge" => judge_request(alloc, matches),
+        "check" => check_request(alloc, matches),
+        "draw" => draw_request(alloc, matches),
+        "serve" => serve_request(alloc, matches),
+        "explore" => explore_request(alloc, matches),
+        "test" => test_request(alloc, matches),
+        _ => Ok(None),
+    }
+}
+
 /// What is asked for, by what the parser found, if no name of a file and no number is missing.
 fn request_of<'a>(
     alloc: Global,
@@ -479,47 +540,30 @@ fn request_of<'a>(
         → subcommand_rows_of matches.now ≡ subcommand_of monitor_app arguments
         → IsAskedIf arguments request) }
 {
-    if let Some(found) = matches.subcommand_matches("judge") {
-        return judge_request(alloc, found);
+    match matches.subcommand() {
+        Some((name, found)) => request_by_command(alloc, name, found),
+        None => Ok(Some(Request::Bundle)),
     }
-    if let Some(found) = matches.subcommand_matches("check") {
-        return check_request(alloc, found);
-    }
-    if let Some(found) = matches.subcommand_matches("draw") {
-        return draw_request(alloc, found);
-    }
-    if let Some(found) = matches.subcommand_matches("serve") {
-        return serve_request(alloc, found);
-    }
-    if let Some(found) = matches.subcommand_matches("explore") {
-        return explore_request(alloc, found);
-    }
-    if let Some(found) = matches.subcommand_matches("test") {
-        return test_request(alloc, found);
-    }
-    Ok(Some(Request::Bundle))
 }
 
 /// What is wanted in place of what is given, if these arguments lack nothing but ask for nothing that could be.
-fn usage(matches: &ArgMatches<'_>) -> Option<&'static str> {
-    match matches.subcommand() {
-        Some((_, found)) => {
-            if format_of(found).is_none() {
-                return Some(FORMAT_USAGE);
-            }
-            if found.contains_id("LIST") {
-                return Some(LIST_USAGE);
-            }
-            if found.contains_id("COLUMN") && flag_of(found, "ALL") {
-                return Some(EXTENT_USAGE);
-            }
-            if found.contains_id("KIND") {
-                return Some(KIND_USAGE);
-            }
-            None
-        }
-        None => None,
+fn usage(command: &str, found: &ArgMatches<'_>) -> Option<&'static str> {
+    if command == "serve" && place_of(found).is_none() {
+        return Some(PLACE_USAGE);
     }
+    if format_of(found).is_none() {
+        return Some(FORMAT_USAGE);
+    }
+    if found.contains_id("LIST") {
+        return Some(LIST_USAGE);
+    }
+    if found.contains_id("COLUMN") && flag_of(found, "ALL") {
+        return Some(EXTENT_USAGE);
+    }
+    if found.contains_id("KIND") {
+        return Some(KIND_USAGE);
+    }
+    None
 }
 
 /// An error of this kind with this text.
@@ -564,7 +608,11 @@ fn request_by<'a>(
         Err(error) => return Err(error),
     };
     let Some(request) = request_of(alloc, &matches)? else {
-        return Err(unclear_arguments(command, usage(&matches)));
+        let wanted = match matches.subcommand() {
+            Some((name, found)) => usage(name, found),
+            None => None,
+        };
+        return Err(unclear_arguments(command, wanted));
     };
     Ok(request)
 }

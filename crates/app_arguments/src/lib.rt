@@ -9,9 +9,12 @@
 //! predicate or of the predicate of one name. It says of a report whether a condition is met, or names a predicate that
 //! isn't there. What each condition asks for stands in `specs/Conditions.antt`.
 //!
-//! - `commands`: the program's commands, as the parser takes them, with their help texts
+//! - `table`: the table of commands, with the arguments and options of each and their help texts
+//! - `help`: what the help says, and what is wanted of arguments
+//! - `commands`: the command line that the parser makes of the table
 //! - `arguments`: what the arguments ask for, by what the parser finds in them
 //! - `request`: what the program is asked for
+//! - `place`: where connections are accepted
 //! - `format`: the formats of a report
 //! - `wishes`: what is wished of the predicates of recorded runs, by their names
 //! - `workers`: how many workers share the work on a session
@@ -28,9 +31,12 @@ mod conclusion;
 mod condition;
 mod fail_on;
 mod format;
+mod help;
 mod kind;
+mod place;
 mod reason;
 mod request;
+mod table;
 mod wishes;
 mod workers;
 
@@ -40,6 +46,7 @@ pub use conclusion::Conclusion;
 pub use fail_on::FailOn;
 pub use format::Format;
 pub use kind::Kind;
+pub use place::Place;
 pub use reason::Reason;
-pub use request::{Judgement, Request, Service, SessionNames, Test};
+pub use request::{Judgement, PageOptions, Request, Service, SessionNames, Test};
 pub use workers::Workers;

@@ -2,6 +2,7 @@
 
 use super::fail_on::FailOn;
 use super::format::Format;
+use super::place::Place;
 use super::workers::Workers;
 use judge_runs::Wish;
 use out_picture::DrawOptions;
@@ -29,6 +30,17 @@ pub struct Judgement<'a> {
     pub workers: Workers,
 }
 
+/// What is asked of a page on which a run is explored.
+#[derive(Drop)]
+pub struct PageOptions<'a> {
+    /// What is wished of the predicates.
+    pub wishes: Vec<Wish<'a>>,
+    /// The names of the files of notes on events, in their order.
+    pub notes: Vec<&'a str>,
+    /// The pattern of a link to where an event stands in a source.
+    pub link: Option<&'a str>,
+}
+
 /// What a server is asked for.
 #[derive(Drop)]
 pub struct Service<'a> {
@@ -36,9 +48,11 @@ pub struct Service<'a> {
     pub spec: &'a str,
     /// What is asked beside the document.
     pub options: Options<'a>,
-    /// The port on which the streams are accepted, from 1 to 65,534.
-    pub port: u16,
-    /// How many watchers are accepted on the next port, at most 64.
+    /// Where the streams are accepted: a port is at most 65,534.
+    pub place: Place<'a>,
+    /// The name of the file in which the port is named, if it is.
+    pub port_file: Option<&'a str>,
+    /// How many watchers are accepted beside it, at most 64.
     pub watchers: u64,
     /// How many seconds the streams are waited for, from 1 to 86,400, if that has an end.
     pub wait: Option<u64>,
@@ -76,8 +90,8 @@ pub enum Request<'a> {
     Draw(&'a str, DrawOptions<'a>, SessionNames<'a>),
     /// To judge a session document and streams that come by connections.
     Serve(Service<'a>),
-    /// To judge a session document and streams, and write the page on which their run is explored.
-    Explore(Judgement<'a>),
+    /// To judge a session document and streams, and write the page on which their run is explored, as it is asked for.
+    Explore(Judgement<'a>, PageOptions<'a>),
     /// To judge recorded runs, and fail on those that aren't as wished.
     Test(Test<'a>),
 }

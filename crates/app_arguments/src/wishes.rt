@@ -1,7 +1,7 @@
 //! What is wished of the predicates of recorded runs, by their names.
 ghost use Rattle.app_arguments.specs.Views.{names_view};
 ghost use Rattle.judge_runs.specs.Views.{wish_kind_view, wishes_view};
-ghost use Rattle.app_arguments.specs.Wishes.{or_none_ever, wishes_for, wishes_of};
+ghost use Rattle.app_arguments.specs.Wishes.{named_wishes, or_none_ever, wishes_for, wishes_of};
 ghost use Rattle.std.specs.Prelude.{◌≡◌, ◌++◌, IfOk, OnOk};
 
 use judge_runs::{Wish, WishKind};
@@ -40,7 +40,27 @@ fn or_none_ever<'a>(wishes: Vec<Wish<'a>>) -> Result<Vec<Wish<'a>>, AllocError>
 }
 
 /// What is wished by the names of the predicates that are never to hold, of those that always are and of those that
-/// sometimes are; with no name, that no predicate ever holds.
+/// sometimes are.
+///
+/// # Errors
+/// An allocation was refused.
+pub(crate) fn named_wishes<'a>(
+    alloc: Global,
+    never: &[&'a str],
+    always: &[&'a str],
+    sometimes: &[&'a str],
+) -> Result<Vec<Wish<'a>>, AllocError>
+    ensures { IfOk result (λ wishes. wishes_view wishes.items
+        ≡ named_wishes (names_view never.now) (names_view always.now) (names_view sometimes.now)) }
+{
+    let mut wishes = Vec::new(alloc);
+    push_wishes(&mut wishes, WishKind::Never, never)?;
+    push_wishes(&mut wishes, WishKind::Always, always)?;
+    push_wishes(&mut wishes, WishKind::Sometimes, sometimes)?;
+    Ok(wishes)
+}
+
+/// The same; with no name, that no predicate ever holds.
 ///
 /// # Errors
 /// An allocation was refused.
@@ -53,9 +73,5 @@ pub(crate) fn wishes_of<'a>(
     ensures { IfOk result (λ wishes. wishes_view wishes.items
         ≡ wishes_of (names_view never.now) (names_view always.now) (names_view sometimes.now)) }
 {
-    let mut wishes = Vec::new(alloc);
-    push_wishes(&mut wishes, WishKind::Never, never)?;
-    push_wishes(&mut wishes, WishKind::Always, always)?;
-    push_wishes(&mut wishes, WishKind::Sometimes, sometimes)?;
-    or_none_ever(wishes)
+    or_none_ever(named_wishes(alloc, never, always, sometimes)?)
 }

@@ -5,8 +5,8 @@ use super::explained_answers::put_answers;
 use super::reasons::put_reasons;
 use super::seen_files::{seen_document, seen_file, seen_streams};
 use super::seen_parts::{document_of, parts_of, streams_of};
-use super::unknown_names::put_unknown_condition;
-use app_arguments::{Judgement, SessionNames};
+use super::unknown_names::{put_unknown_condition, put_unknown_wish};
+use app_arguments::{Judgement, PageOptions, SessionNames};
 use app_explain::{
     Judged, Seen, SeenStream, Widest, explain_bundle_fault, explain_file, explain_finding,
     explain_long_report, explain_memory, explain_no_file, explain_no_picture, explain_no_predicate,
@@ -17,7 +17,7 @@ use app_text::{Source, in_rows, say};
 use judge_draw::DrawOutcome;
 use judge_session::EngineFault;
 use out_picture::DrawOptions;
-use pd_report::Report;
+use pd_report::{Refusal, Report};
 use std::alloc::{AllocError, Global};
 use std::random::RandomSource;
 use std::sync::Wait;
@@ -230,6 +230,91 @@ pub fn judgement_text<Y: System>(
     if world.explain {
         let _ = put_judgement(&mut out, world, judgement, widest, end);
     }
+    rows_of(world.alloc, out)
+}
+
+/// The names of the files of streams, and then those of notes.
+fn names_beside<'a>(
+    alloc: Global,
+    names: &SessionNames<'a>,
+    page: &PageOptions<'a>,
+) -> Result<Vec<&'a str>, AllocError> {
+    let mut all = Vec::new(alloc);
+    for name in names.streams.iter() {
+        all.push(*name)?;
+    }
+    for name in page.notes.iter() {
+        all.push(*name)?;
+    }
+    Ok(all)
+}
+
+/// Explains how a run that explores ended. What is read of notes is noted after what is of the streams.
+fn put_exploration<Y: System>(
+    out: &mut Vec<u8>,
+    world: &World<'_, Y>,
+    judgement: &Judgement<'_>,
+    page: &PageOptions<'_>,
+    widest: Widest,
+    end: &Result<Option<Report>, EngineFault>,
+) -> Result<(), AllocError> {
+    let names = &judgement.names;
+    match end {
+        Ok(None) => {
+            put_unknown_named(out, world, judgement)?;
+            match seen_alone(world, names).spec(world.alloc) {
+                Some(spec) => put_unknown_wish(out, world.alloc, &spec, &page.wishes),
+                None => Ok(()),
+            }
+        }
+        Err(fault) => {
+            let all = names_beside(world.alloc, names, page)?;
+            put_fault(out, world, None, names.spec, &all, fault)
+        }
+        Ok(Some(report)) => put_files_report(out, world, judgement, widest, report),
+    }
+}
+
+/// The explanation of how a run that explores ended, as far as it could be made; empty if none is wanted.
+pub fn exploration_text<Y: System>(
+    world: &World<'_, Y>,
+    judgement: &Judgement<'_>,
+    page: &PageOptions<'_>,
+    widest: Widest,
+    end: &Result<Option<Report>, EngineFault>,
+) -> Vec<u8> {
+    let mut out = Vec::new(world.alloc);
+    if world.explain {
+        let _ = put_exploration(&mut out, world, judgement, page, widest, end);
+    }
+    rows_of(world.alloc, out)
+}
+
+/// Explains why the session in files is refused.
+fn put_refusal<Y: System>(
+    out: &mut Vec<u8>,
+    world: &World<'_, Y>,
+    names: &SessionNames<'_>,
+    refusal: &Refusal,
+) -> Result<(), AllocError> {
+    let streams = seen_streams(world.alloc, world.notes, &names.streams)?;
+    let seen = Seen {
+        document: seen_document(world.notes, names.spec),
+        options: Some(&names.options),
+        streams: &streams,
+        order: "",
+    };
+    explain_refusal(out, world.alloc, seen, refusal)
+}
+
+/// The explanation of the refusal of the session in files, as far as it could be made, whether one is wanted or not.
+pub fn refusal_text<Y: System>(
+    world: &World<'_, Y>,
+    names: &SessionNames<'_>,
+    refusal: &Refusal,
+) -> Vec<u8> {
+    let mut out = Vec::new(world.alloc);
+    let _ = put_refusal(&mut out, world, names, refusal);
     rows_of(world.alloc, out)
 }
 

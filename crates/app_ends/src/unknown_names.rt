@@ -1,6 +1,7 @@
 //! Says which predicate that is named isn't there.
 use app_arguments::FailOn;
 use app_explain::explain_no_predicate;
+use judge_runs::{Wish, WishKind, has_name};
 use pd_spec::Spec;
 use std::alloc::{AllocError, Global};
 use std::str;
@@ -23,4 +24,34 @@ pub fn put_unknown_condition(
         Ok(name) => explain_no_predicate(out, alloc, predicates, "--fail-on", name),
         Err(_) => Ok(()),
     }
+}
+
+/// The option by which this is wished.
+fn option_of(kind: WishKind) -> &'static str {
+    match kind {
+        WishKind::Never => "--never",
+        WishKind::Always => "--always",
+        WishKind::Sometimes => "--sometimes",
+    }
+}
+
+/// Says which predicate the wishes name that the document doesn't have, if there is one.
+///
+/// # Errors
+/// Out of memory; what was put until then stays.
+pub(crate) fn put_unknown_wish(
+    out: &mut Vec<u8>,
+    alloc: Global,
+    spec: &Spec,
+    wishes: &[Wish<'_>],
+) -> Result<(), AllocError> {
+    let predicates = spec.predicates();
+    for wish in wishes {
+        if let Some(name) = wish.name {
+            if !has_name(predicates, name.as_bytes()) {
+                return explain_no_predicate(out, alloc, predicates, option_of(wish.kind), name);
+            }
+        }
+    }
+    Ok(())
 }

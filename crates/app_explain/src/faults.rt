@@ -1,6 +1,6 @@
 //! Explains why there is no report.
 use super::near_names::say_near;
-use app_text::{say, say_name, say_number, say_shown};
+use app_text::{say, say_name, say_shown};
 use pd_spec::NamedPred;
 use std::alloc::{AllocError, Global};
 
@@ -34,34 +34,6 @@ pub fn explain_long_report(out: &mut Vec<u8>, name: &str) -> Result<(), AllocErr
     say(
         out,
         " has more than 268,435,456 bytes, the most that is read of a report: look whether it is the right file.\n",
-    )
-}
-
-/// Explains that a port can't be bound, in the words of the system.
-///
-/// # Errors
-/// Out of memory; what was put until then stays.
-pub fn explain_port(out: &mut Vec<u8>, port: u64, why: &str) -> Result<(), AllocError> {
-    say(out, "Port ")?;
-    say_number(out, port)?;
-    say(out, " of this machine can't be used: ")?;
-    say_shown(out, why.as_bytes())?;
-    say(
-        out,
-        ". If a program has it, end that; or choose another port after --port.\n",
-    )
-}
-
-/// Explains that no connection could be accepted.
-///
-/// # Errors
-/// Out of memory; what was put until then stays.
-pub fn explain_connection(out: &mut Vec<u8>, port: u64) -> Result<(), AllocError> {
-    say(out, "A connection to port ")?;
-    say_number(out, port)?;
-    say(
-        out,
-        " couldn't be accepted, or the port was taken until now: try again.\n",
     )
 }
 

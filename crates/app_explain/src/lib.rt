@@ -20,6 +20,7 @@
 //! - `streams`, `record_details`: why a stream is refused
 //! - `fields`: the texts of fields of lines
 //! - `peers`: who sends the streams of a server, and who is missing
+//! - `served_places`: where a server waits for streams and watchers
 //! - `messages`: why messages, a causal cycle, or a list of streams are refused
 //! - `words`: the words of refusals
 //! - `answers`: what an answer leaves unknown
@@ -47,20 +48,24 @@ mod predicates;
 mod record_details;
 mod refusals;
 mod seen;
+mod served_places;
 mod streams;
 mod words;
 
 pub use answers::{Judged, Widest, explain_answers};
 pub use faults::{
-    explain_bundle_fault, explain_connection, explain_file, explain_long_report, explain_memory,
-    explain_no_file, explain_no_predicate, explain_output, explain_port,
+    explain_bundle_fault, explain_file, explain_long_report, explain_memory, explain_no_file,
+    explain_no_predicate, explain_output,
 };
 pub use findings::{explain_finding, explain_no_picture, explain_unread_finding};
 pub use peers::{
-    Sender, explain_sent_stream, explain_unkept, explain_wait, tell_connection, tell_ports,
-    tell_refusal, tell_start, tell_stop,
+    Sender, explain_sent_stream, explain_unkept, explain_wait, tell_connection, tell_refusal,
+    tell_start, tell_stop,
 };
 pub use refusals::explain_refusal;
 pub use seen::{Seen, SeenStream};
+pub use served_places::{
+    ServedPlace, explain_connection, explain_unbound, explain_unfiled, tell_places, warn_of_open,
+};
 pub use streams::{StreamFault, joined_name};
 pub use words::StreamWord;

@@ -3,8 +3,9 @@ ghost use Rattle.app_explain.specs.Peers.{is_earlier, is_sent, missing, missing_
 ghost use Rattle.std.specs.List.{list_any};
 ghost use Rattle.std.specs.Prelude.{◌≡◌, ◌++◌, not, OnOk};
 
-use super::known_names::{name_at, say_processes};
+use super::known_names::name_at;
 use super::record_details::place_in_record;
+use super::served_places::{ServedPlace, say_place, wait_advice};
 use super::streams::{StreamFault, advice, expected, say_head, say_instead, say_refused};
 use super::words::StreamWord;
 use app_text::{say, say_advice, say_name, say_number, say_shown, show_line, show_line_of};
@@ -12,7 +13,7 @@ use pd_pred::Names;
 use std::alloc::{AllocError, Global};
 
 /// What begins a line that is told while a server runs.
-const TELLING: &str = "serve: ";
+pub(crate) const TELLING: &str = "serve: ";
 
 /// Who sends a stream, as far as it is known.
 #[derive(Clone, Copy)]
@@ -203,7 +204,7 @@ fn say_missing(out: &mut Vec<u8>, names: &Names, senders: &[Sender<'_>]) -> Resu
 pub fn explain_wait(
     out: &mut Vec<u8>,
     names: &Names,
-    port: u64,
+    place: ServedPlace<'_>,
     seconds: u64,
     senders: &[Sender<'_>],
 ) -> Result<(), AllocError> {
@@ -220,15 +221,15 @@ pub fn explain_wait(
     say_number(out, senders.len() as u64)?;
     say(out, " of ")?;
     say_number(out, names.processes() as u64)?;
-    say(out, " streams connected to port ")?;
-    say_number(out, port)?;
+    say(out, " streams connected to ")?;
+    say_place(out, place)?;
     say(out, if senders.is_empty() { ".\n" } else { ":\n" })?;
     show_senders(out, senders)?;
     say_missing(out, names, senders)?;
     say_advice(
         out,
         "a connection for each process of the document.",
-        "start what is missing, let it connect to that port of this machine, or wait longer by --wait.",
+        wait_advice(place),
     )
 }
 
@@ -262,36 +263,6 @@ pub fn tell_stop(out: &mut Vec<u8>, path: &str, why: &str) -> Result<(), AllocEr
         out,
         ". What comes of that stream from here on isn't kept; the session is judged all the same.\n",
     )
-}
-
-/// Tells on which port the streams are waited for, and whose, and on the next one how many watchers.
-///
-/// # Errors
-/// Out of memory; what was put until then stays.
-pub fn tell_ports(
-    out: &mut Vec<u8>,
-    names: &Names,
-    port: u64,
-    watchers: u64,
-) -> Result<(), AllocError> {
-    say(out, TELLING)?;
-    say(out, "port ")?;
-    say_number(out, port)?;
-    say(out, " of this machine waits for the streams of ")?;
-    say_processes(out, names)?;
-    if watchers > 0 {
-        say(out, ", and the next one for ")?;
-        say_number(out, watchers)?;
-        say(
-            out,
-            if watchers == 1 {
-                " watcher"
-            } else {
-                " watchers"
-            },
-        )?;
-    }
-    say(out, ".\n")
 }
 
 /// Tells that a stream has connected, one of this many.

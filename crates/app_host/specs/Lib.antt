@@ -1,3 +1,4 @@
 pub mod FileSources
 pub mod Faults
 pub mod Formats
+pub mod Addresses

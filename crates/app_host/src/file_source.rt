@@ -59,6 +59,12 @@ pub trait FileSource: Sync {
     /// If it can't be given that.
     fn rename(&self, name: &str, other: &str) -> io::Result<()>;
 
+    /// Removes the file of this name.
+    ///
+    /// # Errors
+    /// If it can't be removed.
+    fn remove(&self, name: &str) -> io::Result<()>;
+
     /// How many bytes the file of this name has, if it can be read a second time and that is known, and else 0.
     fn size(&self, _name: &str) -> u64 {
         0
@@ -135,6 +141,10 @@ where
 
     fn rename(&self, name: &str, other: &str) -> io::Result<()> {
         fs::rename(self, name, other)
+    }
+
+    fn remove(&self, name: &str) -> io::Result<()> {
+        fs::remove_file(self, name)
     }
 
     fn size(&self, name: &str) -> u64 {

@@ -7,6 +7,10 @@
 //! - `world`: what a run stands on
 //! - `file_source`: where files are read
 //! - `network`: where connections come from
+//! - `addresses`: the addresses to which ports belong
+//! - `place_listener`: what listens for connections of the system
+//! - `place_connection`: a connection of the system
+//! - `private_files`: files of which sockets are only for the user who runs the program
 //! - `note`, `notes`, `noted_source`: what is read, for an explanation
 //! - `level_gate`: the gate of a walk over a session in files
 //! - `line`: writes a line to the errors
@@ -19,6 +23,7 @@
 //! - `checks`: checks a report against the session in files
 #![tactic(auto)]
 
+mod addresses;
 mod checks;
 mod claim_files;
 mod file_source;
@@ -31,10 +36,14 @@ mod network;
 mod note;
 mod noted_source;
 mod notes;
+mod place_connection;
+mod place_listener;
+mod private_files;
 mod session_files;
 mod status;
 mod world;
 
+pub use addresses::{is_loopback, port_of_address};
 pub use checks::{check_files, check_seen};
 pub use claim_files::read_claim;
 pub use file_source::FileSource;

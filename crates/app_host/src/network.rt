@@ -1,44 +1,57 @@
 //! Where connections come from.
+use super::addresses::port_of_address;
+use super::place_connection::PlaceConnection;
+use super::place_listener::{PlaceListener, listen_at};
+use app_arguments::Place;
 use pd_engine::ByteSource;
 use std::alloc::{AllocError, Global};
 use std::io::{Eprint, ErrorKind, Write};
-use std::net::{Ipv4Addr, Net, OpenListener, OpenStream, SocketAddr, SocketAddrV4};
+use std::net::{Net, OpenListener, OpenStream};
+use std::rt::Files;
 use std::time::{Clock, Duration, Instant};
 use std::{io, thread};
 
-/// How many milliseconds the listener of a port is left alone, if nobody has connected, before it is asked again.
+/// How many milliseconds the listener of a place is left alone, if nobody has connected, before it is asked again.
 const PAUSE: u64 = 10;
 
-/// Accepts connections to ports. What a connection has to give may be known, as it is in proofs over a network that is
+/// Accepts connections to places. What a connection has to give may be known, as it is in proofs over a network that is
 /// made up; of the system's network nothing is known.
 pub trait Network {
+    ghost use Rattle.app_arguments.specs.Places as places;
+    ghost use Rattle.app_arguments.specs.Views.{place_view};
     ghost use Rattle.def_judgement.specs.Writes.{Source};
-    ghost use Rattle.std.specs.Prelude.{◌≡◌, Bool, IfOk, IfSome, IsOk, IsSome, ℕ, None, false, true};
+    ghost use Rattle.std.specs.Prelude.{◌≡◌, Bool, IfOk, IfSome, IsOk, IsSome, None, false, true};
 
-    /// A port that is bound.
+    /// A place that is bound. It is given up where this is dropped.
     type Listener: Sync + Drop;
 
     /// One end of a connection: the bytes that its peer sends, and a place to write bytes to the peer.
     type Connection: ByteSource + Write + Send + Drop;
 
-    // Which source a connection may be that is accepted on a port.
-    ghost may_give: { Self → ℕ → Source → Type 0 };
+    // Which source a connection may be that is accepted at a place.
+    ghost may_give: { Self → places.Place → Source → Type 0 };
 
-    // Whether the listener is bound to the port.
-    ghost is_on: { Self.Listener → ℕ → Type 0 };
+    // Whether the listener is bound to the place.
+    ghost is_on: { Self.Listener → places.Place → Type 0 };
 
-    // Whether each port can be bound, and each connection be accepted.
+    // Whether each place can be bound, and each connection be accepted.
     ghost never_fails: { Bool };
 
-    /// Binds a port of this machine, to which only this machine can connect.
+    /// Binds a place: a port of an address of this machine, to which whoever reaches that address can connect, or a
+    /// socket, to which only the user can who runs the program.
     ///
     /// # Errors
-    /// If the port can't be bound, as one that another program has.
-    fn bind_port(&self, port: u16) -> io::Result<Self::Listener>
-        ensures on { IfOk result (λ listener. is_on listener port) }
+    /// If the place can't be bound, as a port that another program has, or a path at which something is.
+    fn bind(&self, place: &Place<'_>) -> io::Result<Self::Listener>
+        ensures on { IfOk result (λ listener. is_on listener (place_view place.now)) }
         ensures sure { never_fails ≡ true → IsOk result };
 
-    /// Waits for the next connection to the port, until then if there is an end: then none has come.
+    /// The port to which the listener is bound, if it is one and that is known.
+    fn port_of(&self, _listener: &Self::Listener) -> Option<u16> {
+        None
+    }
+
+    /// Waits for the next connection to the place, until then if there is an end: then none has come.
     ///
     /// # Errors
     /// If it can't be accepted.
@@ -47,8 +60,8 @@ pub trait Network {
         listener: &Self::Listener,
         end: Option<Instant>,
     ) -> io::Result<Option<Self::Connection>>
-        ensures given { IfOk result (λ found. IfSome found (λ connection. (port : ℕ) → is_on listener.now port
-            → may_give self.now port (Self.Connection.left connection))) }
+        ensures given { IfOk result (λ found. IfSome found (λ connection. (place : places.Place)
+            → is_on listener.now place → may_give self.now place (Self.Connection.left connection))) }
         ensures open { IfOk result (λ found. IfSome found (λ connection.
             Self.Connection.has_ended connection ≡ false)) }
         ensures come { end ≡ None → IfOk result IsSome }
@@ -74,7 +87,7 @@ pub trait Network {
     }
 
     /// Puts the first bytes that have come by this connection into the piece, and gives how many they are. It waits for
-    /// none, and leaves them to be read.
+    /// none. The connection may have lost them then, so it is read no more.
     fn first_bytes(&self, _connection: &Self::Connection, _piece: &mut [u8]) -> usize {
         0
     }
@@ -84,14 +97,14 @@ pub trait Network {
 }
 
 /// The next connection that has come, if one has come before this moment.
-fn connection_before<L: OpenListener, C: Clock>(
+fn connection_before<L: OpenListener, R: Files + Copy, C: Clock>(
     clock: &C,
-    listener: &L,
+    listener: &PlaceListener<L, R>,
     end: Instant,
-) -> io::Result<Option<L::Stream>> {
+) -> io::Result<Option<PlaceConnection<L::Stream>>> {
     for _turn in 0..u64::MAX {
         match listener.accept() {
-            Ok((connection, _)) => return Ok(Some(connection)),
+            Ok(connection) => return Ok(Some(connection)),
             Err(error) if error.kind() == ErrorKind::WouldBlock => {}
             Err(error) => return Err(error),
         }
@@ -103,16 +116,16 @@ fn connection_before<L: OpenListener, C: Clock>(
     Ok(None)
 }
 
-impl<R: Net + Clock + Eprint> Network for R
+impl<R: Net + Files + Clock + Eprint + Copy + Sync> Network for R
 where
     R::Listener: Sync,
     R::Stream: Send,
 {
     ghost use Rattle.std.specs.Prelude.{⊤, false};
 
-    type Listener = R::Listener;
+    type Listener = PlaceListener<R::Listener, R>;
 
-    type Connection = R::Stream;
+    type Connection = PlaceConnection<R::Stream>;
 
     ghost may_give = { λ _ _ _. ⊤ };
 
@@ -120,20 +133,29 @@ where
 
     ghost never_fails = { false };
 
-    fn bind_port(&self, port: u16) -> io::Result<R::Listener> {
-        self.bind(SocketAddr::V4(SocketAddrV4::new(Ipv4Addr::LOCALHOST, port)))
+    fn bind(&self, place: &Place<'_>) -> io::Result<PlaceListener<R::Listener, R>> {
+        match place {
+            Place::Port(address, port) => match port_of_address(*address, *port) {
+                Some(bound) => Ok(PlaceListener::Port(Net::bind(self, bound)?)),
+                None => Err(io::Error::from(ErrorKind::InvalidInput)),
+            },
+            Place::Socket(path) => Ok(PlaceListener::Socket(listen_at(self, *path)?)),
+        }
+    }
+
+    fn port_of(&self, listener: &PlaceListener<R::Listener, R>) -> Option<u16> {
+        listener.port()
     }
 
     fn next_connection(
         &self,
-        listener: &R::Listener,
+        listener: &PlaceListener<R::Listener, R>,
         end: Option<Instant>,
-    ) -> io::Result<Option<R::Stream>> {
+    ) -> io::Result<Option<PlaceConnection<R::Stream>>> {
         let Some(end) = end else {
-            let (connection, _) = listener.accept()?;
-            return Ok(Some(connection));
+            return Ok(Some(listener.accept()?));
         };
-        listener.set_nonblocking(true)?;
+        listener.wait_for_none()?;
         connection_before(self, listener, end)
     }
 
@@ -148,19 +170,19 @@ where
     fn peer_address(
         &self,
         alloc: Global,
-        connection: &R::Stream,
+        connection: &PlaceConnection<R::Stream>,
     ) -> Result<Option<String>, AllocError> {
+        let PlaceConnection::Port(connection) = connection else {
+            return Ok(None);
+        };
         match connection.peer_addr() {
             Ok(address) => Ok(Some(format!(in alloc; "{address}")?)),
             Err(_) => Ok(None),
         }
     }
 
-    fn first_bytes(&self, connection: &R::Stream, piece: &mut [u8]) -> usize {
-        if connection.set_nonblocking(true).is_err() {
-            return 0;
-        }
-        connection.peek(piece).unwrap_or(0)
+    fn first_bytes(&self, connection: &PlaceConnection<R::Stream>, piece: &mut [u8]) -> usize {
+        connection.first_bytes(piece)
     }
 
     fn tell(&self, text: &[u8]) {

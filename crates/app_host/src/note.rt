@@ -27,7 +27,7 @@ impl Note {
     }
 
     /// Notes why it can't be opened or read, unless that was noted before, if there is memory for it.
-    pub(crate) fn set_failure(&self, alloc: Global, error: &io::Error) {
+    pub fn set_failure(&self, alloc: Global, error: &io::Error) {
         if let Ok(text) = format!(in alloc; "{error}") {
             let _ = self.failure.try_set(text);
         }

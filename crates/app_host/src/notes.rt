@@ -19,10 +19,10 @@ const REPORT: usize = 1;
 /// The place of the first stream's note.
 const STREAMS: usize = 2;
 
-/// As many notes as there may be.
-fn empty_notes(alloc: Global) -> Result<Vec<Note>, AllocError> {
+/// The notes of the document, of the report, and of this many streams.
+fn empty_notes(alloc: Global, streams: usize) -> Result<Vec<Note>, AllocError> {
     let mut all = Vec::new(alloc);
-    for _place in 0..STREAM_COUNT_LIMIT + STREAMS {
+    for _place in 0..streams.saturating_add(STREAMS) {
         all.push(Note::new())?;
     }
     Ok(all)
@@ -32,12 +32,20 @@ impl Notes {
     /// Notes of what will be read, if that is wanted and there is memory for them.
     pub fn new(alloc: Global, is_wanted: bool) -> Notes {
         if is_wanted {
-            if let Ok(all) = empty_notes(alloc) {
-                return Notes { all };
-            }
+            return Notes::for_streams(alloc, STREAM_COUNT_LIMIT);
         }
         Notes {
             all: Vec::new(alloc),
+        }
+    }
+
+    /// Notes of what will be read, of this many streams too, if there is memory for them.
+    pub fn for_streams(alloc: Global, streams: usize) -> Notes {
+        match empty_notes(alloc, streams) {
+            Ok(all) => Notes { all },
+            Err(_) => Notes {
+                all: Vec::new(alloc),
+            },
         }
     }
 

@@ -50,6 +50,10 @@ impl<'a, F: FileSource, R: Clock + Eprint + Sync> FileSource for ShownFiles<'a, 
         self.files.rename(name, other)
     }
 
+    fn remove(&self, name: &str) -> io::Result<()> {
+        self.files.remove(name)
+    }
+
     fn size(&self, name: &str) -> u64 {
         self.files.size(name)
     }

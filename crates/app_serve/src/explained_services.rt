@@ -1,11 +1,12 @@
 //! Explains how a server's run ended.
 use super::host::Host;
+use super::place_names::{streams_name, watchers_name};
 use super::senders::{known_senders, senders};
 use super::service_fault::ServiceFault;
 use app_ends::{put_fault, put_reasons, put_report, put_unknown_condition, rows_of, seen_document};
 use app_explain::{
-    Seen, SeenStream, StreamFault, StreamWord, explain_connection, explain_port,
-    explain_sent_stream, explain_unkept, explain_wait,
+    Seen, SeenStream, StreamFault, StreamWord, explain_connection, explain_sent_stream,
+    explain_unbound, explain_unfiled, explain_unkept, explain_wait,
 };
 use app_host::{FileSource, Notes, System, World};
 use app_text::Source;
@@ -16,11 +17,22 @@ use std::random::RandomSource;
 use std::sync::Wait;
 use std::thread::Threads;
 
-/// Explains which port can't be bound, and why, or that a connection failed.
+/// Explains which place can't be bound, and why, or that a connection failed.
 fn put_network<F, N>(out: &mut Vec<u8>, host: &Host<'_, F, N>) -> Result<(), AllocError> {
+    let streams = streams_name(host)?;
+    let watchers = watchers_name(host)?;
     match host.peers.unbound() {
-        Some((port, why)) => explain_port(out, port as u64, why),
-        None => explain_connection(out, host.service.port as u64),
+        Some((true, why)) => explain_unbound(out, watchers.shown(), why),
+        Some((false, why)) => explain_unbound(out, streams.shown(), why),
+        None => explain_connection(out, streams.shown()),
+    }
+}
+
+/// Explains that the session couldn't be kept, or the file of the port not be written.
+fn put_unkept<F, N>(out: &mut Vec<u8>, host: &Host<'_, F, N>) -> Result<(), AllocError> {
+    match host.peers.unfiled() {
+        Some(why) => explain_unfiled(out, why),
+        None => explain_unkept(out, host.peers.unkept()),
     }
 }
 
@@ -33,13 +45,14 @@ fn spec_of<F, N>(host: &Host<'_, F, N>) -> Option<Spec> {
 /// Explains that not all streams connected in time.
 fn put_wait<F, N>(out: &mut Vec<u8>, host: &Host<'_, F, N>) -> Result<(), AllocError> {
     let service = host.service;
+    let place = streams_name(host)?;
     let Some(spec) = spec_of(host) else {
-        return explain_connection(out, service.port as u64);
+        return explain_connection(out, place.shown());
     };
     let known = known_senders(host.alloc, host.peers, host.peers.count())?;
     let senders = senders(host.alloc, host.peers, &known)?;
     let seconds = service.wait.unwrap_or(0);
-    explain_wait(out, spec.names(), service.port as u64, seconds, &senders)
+    explain_wait(out, spec.names(), place.shown(), seconds, &senders)
 }
 
 /// Explains why a stream is refused, and who sent it.
@@ -159,7 +172,7 @@ fn put_service<Y: System>(
         }
         Err(ServiceFault::Network) => put_network(out, host),
         Err(ServiceFault::Late) => put_wait(out, host),
-        Err(ServiceFault::Unkept) => explain_unkept(out, host.peers.unkept()),
+        Err(ServiceFault::Unkept) => put_unkept(out, host),
     }
 }
 

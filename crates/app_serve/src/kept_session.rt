@@ -1,5 +1,5 @@
 //! Keeps the session of a server as files of a folder.
-ghost use Rattle.app_arguments.specs.Views.{keep_view};
+ghost use Rattle.app_arguments.specs.Views.{text_view};
 ghost use Rattle.app_serve.specs.declared.service_fault.ServiceFault.TheVariants as faults;
 ghost use Rattle.std.specs.Prelude.{◌≡◌, ◌≢◌, ◌⊎◌, IfErr, None, true};
 
@@ -92,7 +92,7 @@ pub fn begin_keeping<'a, F: FileSource, N, T: Notices>(
     spec: &Spec,
     notices: &'a T,
 ) -> Result<Vec<Keeping<'a, F::Sink, T>>, ServiceFault>
-    ensures { IfErr result (λ fault. ((fault ≡ faults.Unkept) × (keep_view host.now.service.now.keep ≢ None))
+    ensures { IfErr result (λ fault. ((fault ≡ faults.Unkept) × (text_view host.now.service.now.keep ≢ None))
         ⊎ (fault ≡ faults.Engine EngineFault.Memory)) }
 {
     let Some(folder) = host.service.keep else {

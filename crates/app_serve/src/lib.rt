@@ -5,6 +5,8 @@
 //! - `service_fault`: why a server gives no report
 //! - `service_status`: the exit status of a server's run
 //! - `service_notices`: tells at once what becomes of a server's session
+//! - `place_names`: what the places of a server are called to whoever runs it
+//! - `port_file`: writes the ports of a server into a file
 //! - `watchers`: shows watchers how far the streams are read
 //! - `kept_session`: keeps the session of a server as files of a folder
 //! - `explained_services`: explains how a server's run ended
@@ -26,6 +28,8 @@ mod kept_stream;
 mod notices;
 mod peer;
 mod peers;
+mod place_names;
+mod port_file;
 mod recording_source;
 mod senders;
 mod server;

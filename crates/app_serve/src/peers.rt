@@ -15,8 +15,14 @@ pub struct Peers {
     has_failed: AtomicBool,
     /// What couldn't be, and why.
     unkept: OnceLock<String>,
-    /// The port that couldn't be bound, and why.
-    unbound: OnceLock<(u16, String)>,
+    /// The file of the port that couldn't be written, and why.
+    unfiled: OnceLock<String>,
+    /// Whether the place that couldn't be bound is that of the watchers, and why it couldn't.
+    unbound: OnceLock<(bool, String)>,
+    /// The port that is bound for the streams.
+    port: OnceLock<u16>,
+    /// The port that is bound for the watchers.
+    watchers_port: OnceLock<u16>,
 }
 
 /// A peer for each stream that there may be.
@@ -45,7 +51,10 @@ impl Peers {
             all,
             has_failed: AtomicBool::new(false),
             unkept: OnceLock::new(),
+            unfiled: OnceLock::new(),
             unbound: OnceLock::new(),
+            port: OnceLock::new(),
+            watchers_port: OnceLock::new(),
         }
     }
 
@@ -62,17 +71,58 @@ impl Peers {
         self.has_failed.load(Ordering::SeqCst)
     }
 
-    /// Notes that this port couldn't be bound, and why.
-    pub fn note_unbound(&self, alloc: Global, port: u16, error: &io::Error) {
-        if let Ok(text) = format!(in alloc; "{error}") {
-            let _ = self.unbound.try_set((port, text));
+    /// Notes that the file of the port couldn't be written, and why.
+    pub fn note_unfiled(&self, alloc: Global, name: &str, error: &io::Error) {
+        if let Ok(text) = format!(in alloc; "{name}: {error}") {
+            let _ = self.unfiled.try_set(text);
         }
     }
 
-    /// The port that couldn't be bound, and why, if there was one.
-    pub fn unbound(&self) -> Option<(u16, &str)> {
+    /// Why the file of the port couldn't be written, if that was noted.
+    pub fn unfiled(&self) -> Option<&str> {
+        match self.unfiled.get() {
+            Some(text) => Some(text.as_str()),
+            None => None,
+        }
+    }
+
+    /// Notes that the place of the streams, or that of the watchers, couldn't be bound, and why.
+    pub fn note_unbound(&self, alloc: Global, is_watchers: bool, error: &io::Error) {
+        if let Ok(text) = format!(in alloc; "{error}") {
+            let _ = self.unbound.try_set((is_watchers, text));
+        }
+    }
+
+    /// Whether the place that couldn't be bound is that of the watchers, and why it couldn't, if there was one.
+    pub fn unbound(&self) -> Option<(bool, &str)> {
         match self.unbound.get() {
-            Some((port, text)) => Some((*port, text.as_str())),
+            Some((is_watchers, text)) => Some((*is_watchers, text.as_str())),
+            None => None,
+        }
+    }
+
+    /// Notes the port that is bound for the streams.
+    pub fn note_port(&self, port: u16) {
+        let _ = self.port.try_set(port);
+    }
+
+    /// The port that is bound for the streams, if that was noted.
+    pub fn port(&self) -> Option<u16> {
+        match self.port.get() {
+            Some(port) => Some(*port),
+            None => None,
+        }
+    }
+
+    /// Notes the port that is bound for the watchers.
+    pub fn note_watchers_port(&self, port: u16) {
+        let _ = self.watchers_port.try_set(port);
+    }
+
+    /// The port that is bound for the watchers, if that was noted.
+    pub fn watchers_port(&self) -> Option<u16> {
+        match self.watchers_port.get() {
+            Some(port) => Some(*port),
             None => None,
         }
     }

@@ -17,8 +17,8 @@ pub struct KnownSender {
 /// What is known of who sent the stream at this place, which is counted from 0.
 fn known_sender(alloc: Global, peers: &Peers, place: usize) -> Result<KnownSender, AllocError> {
     let origin = match peers.at(place).and_then(|peer| peer.address()) {
-        Some(address) => format!(in alloc; "from {address}")?,
-        None => String::new(alloc),
+        Some(address) if !address.is_empty() => format!(in alloc; "from {address}")?,
+        _ => String::new(alloc),
     };
     let process = joined_name(alloc, start_of(peers, place))?;
     Ok(KnownSender {

@@ -1,6 +1,9 @@
 //! Judges a session whose streams come by connections.
-ghost use Rattle.app_arguments.specs.Arguments.{port_limit};
+ghost use Rattle.app_arguments.specs.Places as places;
+ghost use Rattle.app_arguments.specs.Views.{place_view};
 ghost use Rattle.app_host.specs.FileSources.{IsReadOf, ReadLeaves};
+ghost use Rattle.app_serve.specs.Kept.{AsksForFiles, WritesFiles};
+ghost use Rattle.app_serve.specs.Watched.{IsBeside};
 ghost use Rattle.app_serve.specs.ServiceFaults.{named_service_ending, service_ending};
 ghost use Rattle.app_host.specs.Faults.{is_out_of_memory, judgement_ending};
 ghost use Rattle.app_serve.specs.declared.service_fault.ServiceFault.TheVariants as faults;
@@ -9,22 +12,23 @@ ghost use Rattle.app_arguments.specs.ConditionViews.{fail_on_view};
 ghost use Rattle.def_format.specs.Documents.{IsDocument, inquiry_of};
 ghost use Rattle.def_judgement.specs.Headline.{is_judged};
 ghost use Rattle.app_arguments.specs.Statuses.{LeavesOf, MayBeUnread, OfConnections, OfNamed, OfStreams, ServiceMayFail};
-ghost use Rattle.app_arguments.specs.Views.{keep_view};
 ghost use Rattle.pd_report.specs.Views.{report_view};
 ghost use Rattle.judge_session.specs.Inquiries.{inquiry_view};
 ghost use Rattle.pd_spec.specs.Views.{IsFaultOf, document_view, options_view};
-ghost use Rattle.std.specs.Prelude.{◌≡◌, ◌≢◌, ◌⊎◌, ◌↔◌, ◌+◌, ◌<◌, ◌≤◌, ◌∷◌, ℕ, All, List, Option, Err, IfErr, IfOk, IfSome, IsOk, IsSome, MatchResult, None, Ok, Some, [], false, length, map, true};
+ghost use Rattle.std.specs.Prelude.{◌≡◌, ◌⊎◌, ◌↔◌, ◌<◌, ◌∷◌, ℕ, All, List, Option, Err, IfErr, IfOk, IfSome, IsOk, IsSome, MatchResult, None, Ok, Some, [], false, length, map, true};
 
 use super::host::Host;
 use super::keeping::Keeping;
 use super::kept_session::{begin_keeping, end_keeping};
 use super::notices::Notices;
 use super::peer::Peer;
+use super::place_names::{watchers_path, watchers_port};
+use super::port_file::write_port_file;
 use super::recording_source::RecordingSource;
 use super::service_fault::ServiceFault;
 use super::service_notices::ServiceNotices;
 use super::watchers::Watchers;
-use app_arguments::Workers;
+use app_arguments::{Place, Workers};
 use app_host::{
     FileSource, Network, NotedSource, System, World, is_out_of_memory, judge_read, open_noted,
     read_document,
@@ -41,41 +45,69 @@ use std::sync::Wait;
 use std::thread::Threads;
 use std::time::Instant;
 
-/// Binds a port.
+/// Binds the place of the streams, or that of the watchers.
 ///
 /// # Errors
 /// `Network`, if it can't be bound, which is noted.
-fn bind<F, N: Network>(host: &Host<'_, F, N>, port: u16) -> Result<N::Listener, ServiceFault>
-    ensures on { IfOk result (λ listener. N.is_on listener port) }
+fn bind<F, N: Network>(
+    host: &Host<'_, F, N>,
+    place: &Place<'_>,
+    is_watchers: bool,
+) -> Result<N::Listener, ServiceFault>
+    ensures on { IfOk result (λ listener. N.is_on listener (place_view place.now)) }
     ensures sure { N.never_fails ≡ true → IsOk result }
     ensures err { IfErr result (λ fault. fault ≡ faults.Network) }
 {
-    match host.network.bind_port(port) {
+    match host.network.bind(place) {
         Ok(listener) => Ok(listener),
         Err(error) => {
-            host.peers.note_unbound(host.alloc, port, &error);
+            host.peers.note_unbound(host.alloc, is_watchers, &error);
             Err(ServiceFault::Network)
         }
     }
 }
 
-/// Binds the port of the watchers, which is the next one after that of the streams, if any are to be accepted.
+/// Binds the place of the watchers, which is beside that of the streams, if any are to be accepted.
 ///
 /// # Errors
-/// `Network`, if it can't be bound.
+/// `Network`, if it can't be bound, and `Memory`.
 fn bind_watchers<F, N: Network>(host: &Host<'_, F, N>) -> Result<Option<N::Listener>, ServiceFault>
     ensures asked { IfOk result (λ listener. IsSome listener ↔ (0 < host.now.service.now.watchers)) }
-    ensures on { IfOk result (λ listener. IfSome listener (λ bound. N.is_on bound (host.now.service.now.port + 1))) }
-    ensures sure { N.never_fails ≡ true → host.now.service.now.port ≤ port_limit → IsOk result }
-    ensures err { IfErr result (λ fault. fault ≡ faults.Network) }
+    ensures on { IfOk result (λ listener. IfSome listener (λ bound.
+        IsBeside (place_view host.now.service.now.place) (N.is_on bound))) }
+    ensures sure { N.never_fails ≡ true → IfErr result (λ fault. fault ≡ faults.Engine EngineFault.Memory) }
+    ensures err { IfErr result (λ fault. (fault ≡ faults.Network) ⊎ (fault ≡ faults.Engine EngineFault.Memory)) }
 {
     if host.service.watchers == 0 {
         return Ok(None);
     }
-    let Some(port) = host.service.port.checked_add(1) else {
-        return Err(ServiceFault::Network);
-    };
-    Ok(Some(bind(host, port)?))
+    match &host.service.place {
+        Place::Port(address, port) => {
+            let place = Place::Port(*address, watchers_port(*port));
+            Ok(Some(bind(host, &place, true)?))
+        }
+        Place::Socket(path) => {
+            let beside = watchers_path(host.alloc, *path)?;
+            let place = Place::Socket(beside.as_str());
+            Ok(Some(bind(host, &place, true)?))
+        }
+    }
+}
+
+/// Notes which ports are bound.
+fn note_ports<F, N: Network>(
+    host: &Host<'_, F, N>,
+    streams: &N::Listener,
+    watchers: &Option<N::Listener>,
+) {
+    if let Some(port) = host.network.port_of(streams) {
+        host.peers.note_port(port);
+    }
+    if let Some(listener) = watchers {
+        if let Some(port) = host.network.port_of(listener) {
+            host.peers.note_watchers_port(port);
+        }
+    }
 }
 
 /// When the streams are waited for no longer, if there is such a moment.
@@ -109,7 +141,7 @@ fn note_address<F, N: Network>(
     }
 }
 
-/// Accepts the stream at this place on a port, and notes its address for its peer.
+/// Accepts a stream, which is the one of this number, counted from 0, and notes its address for its peer.
 ///
 /// # Errors
 /// `Network`, if it can't be accepted, and `Late`, if it doesn't come in time.
@@ -121,8 +153,8 @@ fn accept_stream<'a, F, N: Network, W: Write + Drop, T: Notices>(
     keeping: Option<Keeping<'a, W, T>>,
     notices: &'a T,
 ) -> Result<RecordingSource<'a, N::Connection, W, T>, ServiceFault>
-    ensures given { IfOk result (λ stream. (port : ℕ) → N.is_on listener.now port
-        → N.may_give host.now.network.now port (N.Connection.left stream.source.source)) }
+    ensures given { IfOk result (λ stream. (at : places.Place) → N.is_on listener.now at
+        → N.may_give host.now.network.now at (N.Connection.left stream.source.source)) }
     ensures open { IfOk result (λ stream. N.Connection.has_ended stream.source.source ≡ false) }
     ensures sure { end ≡ None → N.never_fails ≡ true → IsOk result }
     ensures err { IfErr result (λ fault. (fault ≡ faults.Network) ⊎ (fault ≡ faults.Late)
@@ -140,7 +172,7 @@ fn accept_stream<'a, F, N: Network, W: Write + Drop, T: Notices>(
     }
 }
 
-/// Accepts this many streams on a port, and gives the port up. Of each it is noted who sends it; they are kept by
+/// Accepts this many streams at a place, and gives the place up. Of each it is noted who sends it; they are kept by
 /// these, from the last one on, as long as there are any.
 ///
 /// # Errors
@@ -154,8 +186,8 @@ fn accept_streams<'a, F, N: Network, W: Write + Drop, T: Notices>(
     notices: &'a T,
 ) -> Result<Vec<RecordingSource<'a, N::Connection, W, T>>, ServiceFault>
     ensures count { IfOk result (λ streams. length streams.items ≡ count) }
-    ensures given { IfOk result (λ streams. (port : ℕ) → N.is_on listener port
-        → All (λ stream. N.may_give host.now.network.now port (N.Connection.left stream.source.source))
+    ensures given { IfOk result (λ streams. (at : places.Place) → N.is_on listener at
+        → All (λ stream. N.may_give host.now.network.now at (N.Connection.left stream.source.source))
         streams.items) }
     ensures open { IfOk result (λ streams.
         All (λ stream. N.Connection.has_ended stream.source.source ≡ false) streams.items) }
@@ -255,9 +287,9 @@ fn judge_accepted<
     Ok(report)
 }
 
-/// Binds the ports, begins to keep the session, if it is to be kept, accepts a stream for each process of the document,
-/// judges the document and the streams, and writes the report. Meanwhile the watchers are accepted, and each is shown
-/// how far the streams are read.
+/// Binds the places, begins to keep the session, if it is to be kept, writes the file of the port, if there is to be
+/// one, accepts a stream for each process of the document, judges the document and the streams, and writes the report.
+/// Meanwhile the watchers are accepted, and each is shown how far the streams are read.
 ///
 /// # Errors
 /// As `serve`, but for `Read`; `Unkept` leaves nothing written.
@@ -274,19 +306,18 @@ fn serve_session<
     output: &mut O,
 ) -> Result<Report, ServiceFault>
     requires document { IsDocument (inquiry_view inquiry) (document_view spec.now) }
-    requires port { host.now.service.now.port ≤ port_limit }
     ensures written { (fail_on : List Condition) → ReadLeaves (OfConnections
-        (N.may_give host.now.network.now host.now.service.now.port)
-        (ServiceMayFail host.now.service.now.wait N.never_fails) (keep_view host.now.service.now.keep ≢ None) fail_on
+        (N.may_give host.now.network.now (place_view host.now.service.now.place))
+        (ServiceMayFail host.now.service.now.wait N.never_fails) (AsksForFiles host.now.service.now) fail_on
         (inquiry_view inquiry.entry)) (service_ending fail_on result) (O.contents output.old) (O.contents output.new) }
     ensures err { IfErr result (λ fault. (fault ≡ faults.Network) ⊎ (fault ≡ faults.Late)
-        ⊎ ((fault ≡ faults.Unkept) × (keep_view host.now.service.now.keep ≢ None))
+        ⊎ ((fault ≡ faults.Unkept) × (AsksForFiles host.now.service.now))
         ⊎ (fault ≡ faults.Engine EngineFault.Memory) ⊎ (fault ≡ faults.Engine EngineFault.Write)) }
 {
     one_document();
     let service = host.service;
     let end = wait_end(host.network, service.wait)?;
-    let listener = bind(host, service.port)?;
+    let listener = bind(host, &service.place, false)?;
     let watchers = Watchers {
         network: host.network,
         listener: bind_watchers(host)?,
@@ -296,6 +327,8 @@ fn serve_session<
     };
     let notices = ServiceNotices { host, spec };
     let kept = begin_keeping(host, inquiry, spec, &notices)?;
+    note_ports(host, &listener, &watchers.listener);
+    write_port_file(host)?;
     notices.listens();
     let count = spec.names().processes();
     let streams = accept_streams(host, listener, count, end, kept, &notices)?;
@@ -320,7 +353,7 @@ fn judge_no_streams<Y: System, O: Write>(
     judge_read(world, inquiry, streams, workers, &NoGate, output)
 }
 
-/// Reports why a document is refused. No port is bound.
+/// Reports why a document is refused. No place is bound.
 ///
 /// # Errors
 /// As `serve`, but for `Read` and `Network`.
@@ -332,9 +365,10 @@ fn refuse_document<Y: System, O: Write>(
     output: &mut O,
 ) -> Result<Report, ServiceFault>
     requires { IsFaultOf (inquiry_view inquiry) fault.now }
-    ensures written { (port : ℕ) (fail_on : List Condition) (wait : Option ℕ)
-        (keep : Option (List ℕ)) → ReadLeaves (OfConnections (Y.Network.may_give host.now.network.now port)
-        (ServiceMayFail wait Y.Network.never_fails) (keep ≢ None) fail_on (inquiry_view inquiry.entry))
+    ensures written { (place : places.Place) (fail_on : List Condition) (wait : Option ℕ)
+        (keep port_file : Option (List ℕ)) → ReadLeaves (OfConnections (Y.Network.may_give host.now.network.now place)
+        (ServiceMayFail wait Y.Network.never_fails) (WritesFiles keep port_file) fail_on
+        (inquiry_view inquiry.entry))
         (service_ending fail_on result) (O.contents output.old) (O.contents output.new) }
     ensures memory { is_out_of_memory fault.now ≡ true → result ≡ Err (faults.Engine EngineFault.Memory) }
     // Its refusal is the report that is written whole, or the call fails.
@@ -388,10 +422,9 @@ fn serve_kept<S: RandomSource + Threads + Wait + Sync, F: FileSource, N: Network
     output: &mut O,
 ) -> Result<Report, ServiceFault>
     requires document { IsDocument (inquiry_view inquiry) (document_view spec.now) }
-    requires port { host.now.service.now.port ≤ port_limit }
     ensures { (fail_on : List Condition) → ReadLeaves (OfConnections
-        (N.may_give host.now.network.now host.now.service.now.port)
-        (ServiceMayFail host.now.service.now.wait N.never_fails) (keep_view host.now.service.now.keep ≢ None) fail_on
+        (N.may_give host.now.network.now (place_view host.now.service.now.place))
+        (ServiceMayFail host.now.service.now.wait N.never_fails) (AsksForFiles host.now.service.now) fail_on
         (inquiry_view inquiry.entry)) (service_ending fail_on result) (O.contents output.old) (O.contents output.new) }
 {
     let end = serve_session(rt, host, inquiry, spec, output);
@@ -410,7 +443,7 @@ fn named_end(end: Result<Report, ServiceFault>) -> Result<Option<Report>, Servic
 }
 
 /// Looks up in a document, with what is asked, the predicates that are named; if all are there, judges it and the
-/// streams that come, as `serve_kept`. It gives the report, or nothing if a predicate isn't there: then no port is
+/// streams that come, as `serve_kept`. It gives the report, or nothing if a predicate isn't there: then no place is
 /// bound, and nothing is written.
 ///
 /// # Errors
@@ -423,10 +456,9 @@ fn serve_named<S: RandomSource + Threads + Wait + Sync, F: FileSource, N: Networ
     output: &mut O,
 ) -> Result<Option<Report>, ServiceFault>
     requires document { IsDocument (inquiry_view inquiry) (document_view spec.now) }
-    requires port { host.now.service.now.port ≤ port_limit }
     ensures { ReadLeaves (OfNamed (fail_on_view host.now.service.now.fail_on) (OfConnections
-        (N.may_give host.now.network.now host.now.service.now.port)
-        (ServiceMayFail host.now.service.now.wait N.never_fails) (keep_view host.now.service.now.keep ≢ None)
+        (N.may_give host.now.network.now (place_view host.now.service.now.place))
+        (ServiceMayFail host.now.service.now.wait N.never_fails) (AsksForFiles host.now.service.now)
         (fail_on_view host.now.service.now.fail_on)) (inquiry_view inquiry.entry))
         (named_service_ending (fail_on_view host.now.service.now.fail_on) result) (O.contents output.old)
         (O.contents output.new) }
@@ -454,10 +486,9 @@ fn serve_document<Y: System, O: Write>(
     document: &[u8],
     output: &mut O,
 ) -> Result<Option<Report>, ServiceFault>
-    requires { host.now.service.now.port ≤ port_limit }
     ensures { ReadLeaves (OfNamed (fail_on_view host.now.service.now.fail_on) (OfConnections (Y.Network.may_give
-        host.now.network.now host.now.service.now.port) (ServiceMayFail host.now.service.now.wait
-        Y.Network.never_fails) (keep_view host.now.service.now.keep ≢ None) (fail_on_view
+        host.now.network.now (place_view host.now.service.now.place)) (ServiceMayFail host.now.service.now.wait
+        Y.Network.never_fails) (AsksForFiles host.now.service.now) (fail_on_view
         host.now.service.now.fail_on)) (inquiry_of (options_view host.now.service.now.options) document.now))
         (named_service_ending (fail_on_view host.now.service.now.fail_on) result) (O.contents output.old)
         (O.contents output.new) }
@@ -495,29 +526,28 @@ fn read_service<F: FileSource, N>(host: &Host<'_, F, N>) -> Result<Vec<u8>, Engi
     Ok(document)
 }
 
-/// Opens and reads the document of a session; binds the ports, unless the document, with what is asked, is refused, or
+/// Opens and reads the document of a session; binds the places, unless the document, with what is asked, is refused, or
 /// doesn't have a predicate that is named; accepts a stream for each process; judges the document and the streams,
 /// writes the report, and flushes the output. It gives the report, or nothing if a predicate that is named isn't there,
 /// and notes for the host's peers who sends each stream. Meanwhile the watchers are accepted, and each is shown how far
 /// the streams are read; it returns once all of them have come, or one can't be accepted.
 ///
 /// # Errors
-/// `Read`, if the document can't be opened or read, `Network`, if a port can't be bound or a stream not be accepted,
+/// `Read`, if the document can't be opened or read, `Network`, if a place can't be bound or a stream not be accepted,
 /// `Late`, if a stream doesn't come in time, and `Memory` leave nothing written. `Write` leaves a part of the report
-/// written, or all of it if only the flush failed. `Unkept`, if the session can't be kept that is to be, leaves nothing
-/// written, or all of the report.
+/// written, or all of it if only the flush failed. `Unkept`, if the session can't be kept that is to be, or the file of
+/// the port not be written, leaves nothing written, or all of the report.
 pub fn serve<Y: System, O: Write>(
     world: &World<'_, Y>,
     host: &Host<'_, Y::Files, Y::Network>,
     output: &mut O,
 ) -> Result<Option<Report>, ServiceFault>
-    requires { host.now.service.now.port ≤ port_limit }
     ensures { LeavesOf (options_view host.now.service.now.options) (Y.Files.file_of
         host.now.files.now host.now.service.now.spec.now) (MayBeUnread (Y.Files.file_of host.now.files.now
         host.now.service.now.spec.now ∷ []) (Y.Files.file_of host.now.files.now host.now.service.now.spec.now ∷ []))
         (OfNamed (fail_on_view host.now.service.now.fail_on) (OfConnections (Y.Network.may_give host.now.network.now
-        host.now.service.now.port) (ServiceMayFail host.now.service.now.wait Y.Network.never_fails) (keep_view
-        host.now.service.now.keep ≢ None) (fail_on_view host.now.service.now.fail_on)))
+        (place_view host.now.service.now.place)) (ServiceMayFail host.now.service.now.wait Y.Network.never_fails)
+        (AsksForFiles host.now.service.now) (fail_on_view host.now.service.now.fail_on)))
         (named_service_ending (fail_on_view host.now.service.now.fail_on) result) (O.contents output.old)
         (O.contents output.new) }
 {

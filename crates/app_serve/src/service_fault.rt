@@ -7,11 +7,11 @@ use std::alloc::{AllocError, AllocFailed};
 pub enum ServiceFault {
     /// The document could not be read, the report not be written, or memory ran out.
     Engine(EngineFault),
-    /// A port could not be bound, or a stream not be accepted.
+    /// A place could not be bound, or a stream not be accepted.
     Network,
     /// Not all streams had connected in time.
     Late,
-    /// The session could not be kept.
+    /// The session could not be kept, or the file of the port not be written.
     Unkept,
 }
 

@@ -2,13 +2,15 @@
 use super::host::Host;
 use super::kept_session::stream_names;
 use super::notices::Notices;
+use super::place_names::{streams_name, watchers_name};
 use super::senders::{known_senders, senders};
+use app_arguments::Place;
 use app_ends::rows_of;
 use app_explain::{
-    StreamFault as NamedFault, StreamWord, joined_name, tell_connection, tell_ports, tell_refusal,
-    tell_start, tell_stop,
+    StreamFault as NamedFault, StreamWord, joined_name, tell_connection, tell_places, tell_refusal,
+    tell_start, tell_stop, warn_of_open,
 };
-use app_host::{FileSource, Network};
+use app_host::{FileSource, Network, is_loopback};
 use judge_session::stream_word;
 use pd_engine::{Spec, StreamFault};
 use std::alloc::{AllocError, Global};
@@ -43,17 +45,58 @@ fn stop_text(alloc: Global, path: &str, error: &io::Error) -> Result<Vec<u8>, Al
     Ok(out)
 }
 
-/// What is told of the ports.
-fn ports_text<F, N>(host: &Host<'_, F, N>, spec: &Spec) -> Result<Vec<u8>, AllocError> {
+/// Whether the watchers are said to be waited for on the next port, as beside a port that is given with no address.
+fn is_next(place: &Place<'_>) -> bool {
+    match place {
+        Place::Port(None, port) => *port != 0,
+        _ => false,
+    }
+}
+
+/// What is told of the places.
+fn places_text<F, N>(host: &Host<'_, F, N>, spec: &Spec) -> Result<Vec<u8>, AllocError> {
     let mut out = Vec::new(host.alloc);
-    let service = host.service;
-    tell_ports(
+    let (place, other) = (streams_name(host)?, watchers_name(host)?);
+    let watched = if is_next(&host.service.place) {
+        None
+    } else {
+        Some(other.shown())
+    };
+    tell_places(
         &mut out,
         spec.names(),
-        service.port as u64,
-        service.watchers,
+        place.shown(),
+        watched,
+        host.service.watchers,
     )?;
     Ok(out)
+}
+
+/// Whether others than this machine may connect to a place.
+fn is_open(place: &Place<'_>) -> bool {
+    match place {
+        Place::Port(address, _) => !is_loopback(*address),
+        Place::Socket(_) => false,
+    }
+}
+
+/// The warning that others than this machine may connect.
+fn open_text<F, N>(host: &Host<'_, F, N>) -> Result<Vec<u8>, AllocError> {
+    let mut out = Vec::new(host.alloc);
+    let place = streams_name(host)?;
+    warn_of_open(&mut out, place.shown())?;
+    Ok(out)
+}
+
+/// The same in rows, if there is a reason for it, and it could be made.
+fn open_rows<F, N>(host: &Host<'_, F, N>) -> Option<Vec<u8>> {
+    if !is_open(&host.service.place) {
+        return None;
+    }
+    match open_text(host) {
+        Ok(text) => Some(rows_of(host.alloc, text)),
+        Err(_) => None,
+    }
 }
 
 /// What is told of the stream at this place.
@@ -129,9 +172,13 @@ fn told_rows<F, N>(host: &Host<'_, F, N>, text: Result<Vec<u8>, AllocError>) -> 
 }
 
 impl<'a, F, N: Network> ServiceNotices<'a, F, N> {
-    /// Tells on which ports the streams and watchers are waited for, if that is wanted.
+    /// Tells where the streams and watchers are waited for, if that is wanted, and in any case that others than this
+    /// machine may connect, if that is so.
     pub fn listens(&self) {
-        if let Some(rows) = told_rows(self.host, ports_text(self.host, self.spec)) {
+        if let Some(rows) = told_rows(self.host, places_text(self.host, self.spec)) {
+            self.host.network.tell(&rows);
+        }
+        if let Some(rows) = open_rows(self.host) {
             self.host.network.tell(&rows);
         }
     }

@@ -11,7 +11,7 @@ use judge_session::EngineFault;
 use pd_report::Report;
 use std::io::Write;
 
-/// Writes the line that reports that a port can't be bound or a stream not be accepted, or not in time, and gives the
+/// Writes the line that reports that a place can't be bound or a stream not be accepted, or not in time, and gives the
 /// exit status.
 fn report_network<E: Write>(errors: &mut E) -> u8
     ensures status { result ≡ status_of_failure NetworkFailure }

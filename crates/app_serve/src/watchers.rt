@@ -10,12 +10,12 @@ use std::io::Write;
 use std::sync::Wait;
 use std::thread::Threads;
 
-/// Accepts watchers on a port, one after the other, and writes one snapshot of the streams to each.
+/// Accepts watchers at a place, one after the other, and writes one snapshot of the streams to each.
 #[derive(Drop)]
 pub struct Watchers<'a, N: Network> {
     /// Where they come from.
     pub network: &'a N,
-    /// The port, if any are to be accepted.
+    /// The place, if any are to be accepted.
     pub listener: Option<N::Listener>,
     /// How many are accepted.
     pub count: u64,

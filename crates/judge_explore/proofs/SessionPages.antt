@@ -16,6 +16,7 @@ use Rattle.def_judgement.specs.Judgements.{IsAnswered, IsJudgement, IsTracesRepo
 use Rattle.def_judgement.specs.Writes.{Source as StreamSource}
 use Rattle.def_judgement.proofs.TrueReports.{judgement_is_true_lem}
 use Rattle.out_page.specs.AnswerData.{Answered, Cyclic}
+use Rattle.out_page.specs.ExtraData.{Extras}
 use Rattle.out_page.specs.Pages.{page_text}
 use Rattle.out_page.specs.SourceData.{Source}
 use Rattle.read_traces.specs.Views.{computation_view}
@@ -30,15 +31,18 @@ use Rattle.judge_explore.specs.Explored.{IsPageOfInputs, IsPageOfTraces, report_
 use Rattle.judge_explore.specs.Sources.{StreamFile, sources_of}
 
 -- the page of traces that make a well-formed computation, of which these are the counts of the report
-pub traces_page : (document : Document) (sources : List Source) (traces : List Read) (recorded : Recorded)
+pub traces_page : (document : Document) (extras : Extras) (sources : List Source) (traces : List Read) (recorded :
+    Recorded)
     (count processes events : ℕ) (pairs : List (Place × Place)) (answers : List Answer) (text : List ℕ)
     → AreWellFormed document (traces_view traces) recorded count → IsMessageList (computation_view traces) pairs
     → AllZip (IsAnswered document recorded) document.predicates answers
     → processes ≡ length document.names → events ≡ total recorded.events
-    → text ≡ page_text document sources (computation_view traces) pairs (Answered answers)
-    → IsPageOfTraces document sources (traces_view traces) (λ report. report ≡ Judged processes events count answers)
+    → text ≡ page_text document extras sources (computation_view traces) pairs (Answered answers)
+    → IsPageOfTraces document extras sources (traces_view traces) (λ report. report ≡ Judged processes events count
+    answers)
     text
-traces_page document sources traces recorded count processes events pairs answers text well list answered same_names
+traces_page document extras sources traces recorded count processes events pairs answers text well list answered
+    same_names
     same_total is_text = record {
       pairs = pairs;
       are_messages = subst (λ (c : Computation). IsMessageList c pairs) (same_events traces) list;
@@ -52,35 +56,39 @@ traces_page document sources traces recorded count processes events pairs answer
           sym (ap (λ (n : ℕ). Judged n events count answers) same_names
           ∙ ap (λ (n : ℕ). Judged (length document.names) n count answers) counted);
       is_text = is_text
-          ∙ ap (λ (c : Computation). page_text document sources c pairs (Answered answers)) (same_events traces);
+          ∙ ap (λ (c : Computation). page_text document extras sources c pairs (Answered answers)) (same_events traces);
     }
 
 -- the page of traces that are refused for a causal cycle
-pub cycle_page : (document : Document) (sources : List Source) (traces : List Read) (pairs : List (Place × Place))
+pub cycle_page : (document : Document) (extras : Extras) (sources : List Source) (traces : List Read) (pairs : List
+    (Place × Place))
     (places : List NamedPlace) (text : List ℕ) → IsMessageList (computation_view traces) pairs
     → IsTracesReport document (traces_view traces) (Refused (reports.Cycle places))
-    → text ≡ page_text document sources (computation_view traces) pairs (Cyclic places)
-    → IsPageOfTraces document sources (traces_view traces) (λ report. report ≡ Refused (reports.Cycle places)) text
-cycle_page document sources traces pairs places text list right is_text = record {
+    → text ≡ page_text document extras sources (computation_view traces) pairs (Cyclic places)
+    → IsPageOfTraces document extras sources (traces_view traces) (λ report. report ≡ Refused (reports.Cycle places))
+    text
+cycle_page document extras sources traces pairs places text list right is_text = record {
   pairs = pairs;
   are_messages = subst (λ (c : Computation). IsMessageList c pairs) (same_events traces) list;
   messages = 0;
   outcome = Cyclic places;
   right = right;
   said = refl;
-  is_text = is_text ∙ ap (λ (c : Computation). page_text document sources c pairs (Cyclic places)) (same_events traces);
+  is_text = is_text ∙ ap (λ (c : Computation). page_text document extras sources c pairs (Cyclic places)) (same_events
+      traces);
 }
 
 -- the same of the streams that readers gave
-pub inputs_page : (inquiry : Inquiry) (files : List StreamFile) (inputs : List StreamSource) (document : Document)
+pub inputs_page : (inquiry : Inquiry) (extras : Extras) (files : List StreamFile) (inputs : List StreamSource)
+    (document : Document)
     (count : ℕ) (results : List StreamResult) (sources : List Source)
     (traces : List Trace) (IsSaid : Report → Type 0) (text : List ℕ)
     → IsDocument inquiry document → AreGiven document inputs count results
     → session document.names count results ≡ Ok traces
     → sources ≡ sources_of document.names files (events_of_traces traces)
-    → IsPageOfTraces document sources traces IsSaid text
-    → IsPageOfInputs inquiry files inputs IsSaid text
-inputs_page inquiry files inputs document count results sources traces IsSaid text is given joined
+    → IsPageOfTraces document extras sources traces IsSaid text
+    → IsPageOfInputs inquiry extras files inputs IsSaid text
+inputs_page inquiry extras files inputs document count results sources traces IsSaid text is given joined
     recorded page =
     let report : Report = report_with document traces page.messages page.outcome in
     let right : IsJudgement inquiry given.0 report =
@@ -106,7 +114,8 @@ inputs_page inquiry files inputs document count results sources traces IsSaid te
         truth = judgement_is_true_lem inquiry given.0 report right;
         said = page.said;
         is_text = page.is_text
-            ∙ ap (λ (all : List Source). page_text document all (events_of_traces traces) page.pairs page.outcome)
+            ∙ ap (λ (all : List Source). page_text document extras all (events_of_traces traces) page.pairs
+            page.outcome)
             recorded;
       };
     }

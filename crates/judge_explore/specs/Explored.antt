@@ -1,5 +1,5 @@
 -- What is written of a session that is explored.
-use Rattle.std.specs.Prelude.{◌≡◌, ◌⊎◌, ℕ, Bool, true, false, List, length, Option, Result, IfErr}
+use Rattle.std.specs.Prelude.{◌≡◌, ◌⊎◌, ℕ, Bool, true, false, List, length, Some}
 use Rattle.std.specs.List.{AllZip}
 use Rattle.def_model.specs.Events.{Place}
 use Rattle.def_model.specs.Messages.{IsMessageList}
@@ -10,16 +10,15 @@ use Rattle.def_format.specs.Reports.{Report, Judged, Refused}
 use Rattle.def_format.specs.Reports as reports
 use Rattle.def_judgement.specs.Headline.{HoldsSession, IsTrueReport, is_judged}
 use Rattle.def_judgement.specs.Judgements.{IsJudgement, IsTracesReport, RawStream, events_of_traces}
-use Rattle.def_judgement.specs.Writes.{IsGivenAs, IsTextOfStreams, Writes, Source as StreamSource}
+use Rattle.def_judgement.specs.Writes.{IsGivenAs, IsTextOfStreams, Source as StreamSource}
 use Rattle.out_page.specs.AnswerData.{Answered, Cyclic, Outcome}
-use Rattle.out_page.specs.Pages.{page_text}
+use Rattle.out_page.specs.ExtraData.{Extras}
+use Rattle.out_page.specs.Pages.{page_text, refusal_page}
 use Rattle.out_page.specs.SourceData.{Source}
 use Rattle.judge_explore.specs.Sources.{StreamFile, sources_of}
-use Rattle.judge_session.specs.Ends.{call_end}
-use Rattle.judge_session.specs.declared.fault.EngineFault.{EngineFault}
-use Rattle.judge_session.specs.declared.fault.EngineFault.TheVariants.{Memory, Write}
-use Rattle.pd_report.specs.declared.report.Report as programs
-use Rattle.pd_engine.specs.Ends.{IsGiven}
+use Rattle.judge_session.specs.SessionReports.{IsReportOfInputs}
+use Rattle.judge_session.specs.Unanswered.{refused_report}
+use Rattle.judge_session.specs.declared.unanswered.Unanswered.{Unanswered}
 
 -- the report of traces of which this is shown, for a session with this many messages
 abbrev pub report_with : Document → List Trace → (messages : ℕ) → Outcome → Report
@@ -27,10 +26,10 @@ report_with document traces messages (Answered answers) =
     Judged (length document.names) (total (events_of_traces traces)) messages answers
 report_with document traces messages (Cyclic places) = Refused (reports.Cycle places)
 
--- The page of a session's traces: of where their events were recorded, of these, of the messages, each as its send and
--- its receipt in the order of the receipts, and of the answers of their report or the causal cycle that it names. Of
--- the report this is said.
-pub record IsPageOfTraces (document : Document) (sources : List Source) (traces : List Trace)
+-- The page of a session's traces: of what the page has beside them, of where their events were recorded, of these, of
+-- the messages, each as its send and its receipt in the order of the receipts, and of the answers of their report or
+-- the causal cycle that it names. Of the report this is said.
+pub record IsPageOfTraces (document : Document) (extras : Extras) (sources : List Source) (traces : List Trace)
     (IsSaid : Report → Type 0) (text : List ℕ) : Type 0 where
   pub pairs : List (Place × Place)
   pub are_messages : IsMessageList (events_of_traces traces) pairs
@@ -38,12 +37,12 @@ pub record IsPageOfTraces (document : Document) (sources : List Source) (traces 
   pub outcome : Outcome
   pub right : IsTracesReport document traces (report_with document traces messages outcome)
   pub said : IsSaid (report_with document traces messages outcome)
-  pub is_text : text ≡ page_text document sources (events_of_traces traces) pairs outcome
+  pub is_text : text ≡ page_text document extras sources (events_of_traces traces) pairs outcome
 
 -- The page of the session that a document's bytes, with what is asked beside them, and streams hold, with where their
 -- events were recorded by these files; and the report of which it shows the answers or the cycle is the report of the
 -- document and the streams, which is true.
-pub record IsPageOf (inquiry : Inquiry) (files : List StreamFile) (streams : List RawStream)
+pub record IsPageOf (inquiry : Inquiry) (extras : Extras) (files : List StreamFile) (streams : List RawStream)
     (IsSaid : Report → Type 0) (text : List ℕ) : Type 0 where
   pub document : Document
   pub traces : List Trace
@@ -55,15 +54,15 @@ pub record IsPageOf (inquiry : Inquiry) (files : List StreamFile) (streams : Lis
   pub right : IsJudgement inquiry streams (report_with document traces messages outcome)
   pub truth : IsTrueReport inquiry streams (report_with document traces messages outcome)
   pub said : IsSaid (report_with document traces messages outcome)
-  pub is_text : text ≡ page_text document (sources_of document.names files (events_of_traces traces))
+  pub is_text : text ≡ page_text document extras (sources_of document.names files (events_of_traces traces))
       (events_of_traces traces) pairs outcome
 
 -- the same of the streams that these sources gave
-pub record IsPageOfInputs (inquiry : Inquiry) (files : List StreamFile) (inputs : List StreamSource)
+pub record IsPageOfInputs (inquiry : Inquiry) (extras : Extras) (files : List StreamFile) (inputs : List StreamSource)
     (IsSaid : Report → Type 0) (text : List ℕ) : Type 0 where
   pub streams : List RawStream
   pub are_given : AllZip IsGivenAs inputs streams
-  pub is_page : IsPageOf inquiry files streams IsSaid text
+  pub is_page : IsPageOf inquiry extras files streams IsSaid text
 
 -- whether it is a refusal for a causal cycle
 abbrev pub is_cycle : Report → Bool
@@ -74,18 +73,27 @@ is_cycle _ = false
 abbrev pub IsOtherRefusal : Report → Type 0
 IsOtherRefusal report = (is_judged report ≡ false) × (is_cycle report ≡ false)
 
--- The text that is owed of a session, with these files: its page, if it is judged, or refused for a causal cycle, which
--- the page shows; and the text of its report, if it is refused otherwise. Of the report this is said.
-abbrev pub IsOwed : (inquiry : Inquiry) (files : List StreamFile) (inputs : List StreamSource)
-    (IsSaid : Report → Type 0) (text : List ℕ) → Type 0
-IsOwed inquiry files inputs IsSaid text =
-    IsPageOfInputs inquiry files inputs IsSaid text
-    ⊎ IsTextOfStreams inquiry inputs (λ report. IsOtherRefusal report × IsSaid report) text
+-- The page of a session that is refused, and not for a causal cycle: of the text of its report, and of some
+-- explanation.
+-- Of the report this is said.
+pub record IsRefusalPage (inquiry : Inquiry) (inputs : List StreamSource) (IsSaid : Report → Type 0) (text : List ℕ) :
+    Type 0 where
+  pub report : List ℕ
+  pub is_report : IsTextOfStreams inquiry inputs (λ report. IsOtherRefusal report × IsSaid report) report
+  pub explanation : List ℕ
+  pub is_text : text ≡ refusal_page report explanation
 
--- What a call leaves on its output, and its result, if it explores the session of a document, with what is asked, and
--- of these sources of streams, with these files. What is owed of the report that it gives is written whole; a write
--- that fails leaves a prefix of what is owed, out of memory nothing, and no other fault comes.
-pub record Explores (inquiry : Inquiry) (files : List StreamFile) (inputs : List StreamSource)
-    (result : Result programs.Report EngineFault) (old new : Option (List ℕ)) : Type 0 where
-  pub written : Writes (IsOwed inquiry files inputs (IsGiven result)) (call_end result) old new
-  pub err : IfErr result (λ fault. (fault ≡ Memory) ⊎ (fault ≡ Write))
+-- The text that is owed of a session, with these files: its page, if it is judged, or refused for a causal cycle, which
+-- the page shows; and the page of the refusal, if it is refused otherwise. Of the report this is said.
+abbrev pub IsOwed : (inquiry : Inquiry) (extras : Extras) (files : List StreamFile) (inputs : List StreamSource)
+    (IsSaid : Report → Type 0) (text : List ℕ) → Type 0
+IsOwed inquiry extras files inputs IsSaid text =
+    IsPageOfInputs inquiry extras files inputs IsSaid text ⊎ IsRefusalPage inquiry inputs IsSaid text
+
+-- it is the report of a session that is refused, and not for a causal cycle
+abbrev pub IsOwnRefusal : (inquiry : Inquiry) (inputs : List StreamSource) → Report → Type 0
+IsOwnRefusal inquiry inputs report = IsReportOfInputs inquiry inputs report × (is_cycle report ≡ false)
+
+-- it is the refusal for which a session comes to no answers, and not for a causal cycle
+abbrev pub IsKept : Unanswered → Report → Type 0
+IsKept unanswered report = (refused_report unanswered ≡ Some report) × (is_cycle report ≡ false)

@@ -1,11 +1,11 @@
 -- Where the events of a session were recorded, by the files of its streams.
-use Rattle.std.specs.Prelude.{◌≡◌, ℕ, suc, Bool, false, ◌==◌, if◌then◌else◌, ◌⊎◌, ◌+◌, List, [], ◌∷◌, length, map, take, Option, None, Result, Ok, Err, IfSome}
+use Rattle.std.specs.Prelude.{◌≡◌, ℕ, suc, Bool, false, ◌==◌, if◌then◌else◌, ◌⊎◌, ◌+◌, List, [], ◌∷◌, length, map, take, Option, None, Result, Ok, IfSome}
 use Rattle.std.specs.List.{AllZip}
 use Rattle.def_model.specs.Events.{Computation}
 use Rattle.def_format.specs.Limits.{stream_byte_limit}
 use Rattle.def_format.specs.Lines.{Line, finished_lines}
 use Rattle.def_format.specs.Names.{ProcessNames}
-use Rattle.def_format.specs.Records.{RecordFault, LineRecord, Joins, Happens, Ends, record_of}
+use Rattle.def_format.specs.Records.{RecordFault, LineRecord, Joins, record_of}
 use Rattle.out_page.specs.SourceData.{Source}
 
 -- The file of a stream: its name, its first line that isn't blank, in which the stream joins its process, and the

@@ -1,12 +1,11 @@
 //! The page of a session, with its report.
 use pd_report::Report;
 
-/// The page of a session, and the session's report: with the answers that the page shows, or the refusal for the causal
-/// cycle that it shows.
+/// The page of a session, and the session's report: with the answers that the page shows, or the refusal that it shows.
 #[derive(Drop)]
-pub(crate) struct Page {
+pub struct Page {
     /// The page's text.
-    pub(crate) text: Vec<u8>,
+    pub text: Vec<u8>,
     /// The report.
-    pub(crate) report: Report,
+    pub report: Report,
 }

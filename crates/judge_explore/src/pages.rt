@@ -9,7 +9,7 @@ ghost use Rattle.pd_match.specs.Views.{pairs_view};
 ghost use Rattle.def_model.specs.Messages.{IsMessageList};
 ghost use Rattle.out_page.specs.AnswerData.{Answered, Cyclic};
 ghost use Rattle.out_page.specs.Pages.{page_text};
-ghost use Rattle.out_page.specs.Views.{sources_view};
+ghost use Rattle.out_page.specs.Views.{extras_view, sources_view};
 ghost use Rattle.pd_report.specs.Views.{answer_view, named_places_view, refusal_view};
 ghost use Rattle.judge_session.specs.Computations.{AreWellFormed};
 ghost use Rattle.judge_session.specs.Inquiries.{inquiry_view};
@@ -24,7 +24,7 @@ use super::page::Page;
 use super::sources::sources_of;
 use super::stream_file::StreamFile;
 use judge_session::{Inquiry, Unanswered, build, messages_of, read_inquiry, traces_of};
-use out_page::{Content, Outcome, Source, text};
+use out_page::{Content, Extras, Outcome, Source, text};
 use pd_clock::Computation;
 use pd_engine::answers_of;
 use pd_expand::Crew;
@@ -43,16 +43,19 @@ use std::thread::Threads;
 fn answers_text(
     alloc: Global,
     spec: &Spec,
+    extras: &Extras<'_>,
     sources: &[Source<'_>],
     traces: &[Trace],
     pairs: &[(Place, Place)],
     answers: &[Answer],
 ) -> Result<Vec<u8>, AllocError>
-    ensures { IfOk result (λ text. text.items ≡ page_text (document_view spec.now) (sources_view sources.now)
-        (computation_view traces.now) (pairs_view pairs.now) (Answered (map answer_view answers.now))) }
+    ensures { IfOk result (λ text. text.items ≡ page_text (document_view spec.now) (extras_view extras.now)
+        (sources_view sources.now) (computation_view traces.now) (pairs_view pairs.now) (Answered (map answer_view
+        answers.now))) }
 {
     let content = Content {
         spec,
+        extras,
         sources,
         traces,
         pairs,
@@ -66,6 +69,7 @@ fn judged_page<S: RandomSource + Threads + Wait + Sync, G: Gate + Sync>(
     crew: &Crew<'_, '_, S, G>,
     alloc: Global,
     spec: &Spec,
+    extras: &Extras<'_>,
     sources: &[Source<'_>],
     traces: &[Trace],
     pairs: &[(Place, Place)],
@@ -73,11 +77,11 @@ fn judged_page<S: RandomSource + Threads + Wait + Sync, G: Gate + Sync>(
 ) -> Result<Page, AllocError>
     requires formed { AreWellFormed (document_view spec.now) (traces_view traces.now) built.now.0 built.now.1 }
     requires listed { IsMessageList (computation_view traces.now) (pairs_view pairs.now) }
-    ensures { IfOk result (λ page. IsPageOfTraces (document_view spec.now) (sources_view sources.now)
-        (traces_view traces.now) (IsGiven (Ok page.report)) page.text.items) }
+    ensures { IfOk result (λ page. IsPageOfTraces (document_view spec.now) (extras_view extras.now)
+        (sources_view sources.now) (traces_view traces.now) (IsGiven (Ok page.report)) page.text.items) }
 {
     let answers = answers_of(crew, alloc, spec, &built.0)?;
-    let text = answers_text(alloc, spec, sources, traces, pairs, &answers)?;
+    let text = answers_text(alloc, spec, extras, sources, traces, pairs, &answers)?;
     Ok(Page {
         text,
         report: Report::Judged {
@@ -93,16 +97,19 @@ fn judged_page<S: RandomSource + Threads + Wait + Sync, G: Gate + Sync>(
 fn cycle_text(
     alloc: Global,
     spec: &Spec,
+    extras: &Extras<'_>,
     sources: &[Source<'_>],
     traces: &[Trace],
     pairs: &[(Place, Place)],
     places: &[(String, u64)],
 ) -> Result<Vec<u8>, AllocError>
-    ensures { IfOk result (λ text. text.items ≡ page_text (document_view spec.now) (sources_view sources.now)
-        (computation_view traces.now) (pairs_view pairs.now) (Cyclic (named_places_view places.now))) }
+    ensures { IfOk result (λ text. text.items ≡ page_text (document_view spec.now) (extras_view extras.now)
+        (sources_view sources.now) (computation_view traces.now) (pairs_view pairs.now) (Cyclic (named_places_view
+        places.now))) }
 {
     let content = Content {
         spec,
+        extras,
         sources,
         traces,
         pairs,
@@ -115,6 +122,7 @@ fn cycle_text(
 fn refused_page(
     alloc: Global,
     spec: &Spec,
+    extras: &Extras<'_>,
     sources: &[Source<'_>],
     traces: &[Trace],
     pairs: &[(Place, Place)],
@@ -123,14 +131,14 @@ fn refused_page(
     requires listed { IsMessageList (computation_view traces.now) (pairs_view pairs.now) }
     requires right { IsTracesReport (document_view spec.now) (traces_view traces.now)
         (Refused (refusal_view refusal)) }
-    ensures page { IfOk result (λ page. IsPageOfTraces (document_view spec.now) (sources_view sources.now)
-        (traces_view traces.now) (IsGiven (Ok page.report)) page.text.items) }
+    ensures page { IfOk result (λ page. IsPageOfTraces (document_view spec.now) (extras_view extras.now)
+        (sources_view sources.now) (traces_view traces.now) (IsGiven (Ok page.report)) page.text.items) }
     ensures refused { IfErr result (IsUnanswered (IsTracesReport (document_view spec.now)
         (traces_view traces.now))) }
 {
     match refusal {
         Refusal::Cycle(places) => {
-            let text = cycle_text(alloc, spec, sources, traces, pairs, &places)?;
+            let text = cycle_text(alloc, spec, extras, sources, traces, pairs, &places)?;
             Ok(Page {
                 text,
                 report: Report::Refused(Refusal::Cycle(places)),
@@ -146,12 +154,13 @@ fn page_of_traces<S: RandomSource + Threads + Wait + Sync, G: Gate + Sync>(
     crew: &Crew<'_, '_, S, G>,
     alloc: Global,
     spec: &Spec,
+    extras: &Extras<'_>,
     sources: &[Source<'_>],
     traces: &[Trace],
 ) -> Result<Page, Unanswered>
     requires { AreTraces (document_view spec.now).names traces.now }
-    ensures page { IfOk result (λ page. IsPageOfTraces (document_view spec.now) (sources_view sources.now)
-        (traces_view traces.now) (IsGiven (Ok page.report)) page.text.items) }
+    ensures page { IfOk result (λ page. IsPageOfTraces (document_view spec.now) (extras_view extras.now)
+        (sources_view sources.now) (traces_view traces.now) (IsGiven (Ok page.report)) page.text.items) }
     ensures refused { IfErr result (IsUnanswered (IsTracesReport (document_view spec.now)
         (traces_view traces.now))) }
 {
@@ -159,12 +168,12 @@ fn page_of_traces<S: RandomSource + Threads + Wait + Sync, G: Gate + Sync>(
     let pairs = matched.pairs(alloc)?;
     match build(alloc, spec, traces, matched) {
         Ok(built) => {
-            let page = judged_page(crew, alloc, spec, sources, traces, &pairs, &built)?;
+            let page = judged_page(crew, alloc, spec, extras, sources, traces, &pairs, &built)?;
             Ok(page)
         }
         Err(unanswered) => match unanswered {
             Unanswered::Refused(refusal) => refused_page(
-                alloc, spec, sources, traces, &pairs, refusal,
+                alloc, spec, extras, sources, traces, &pairs, refusal,
             ),
             Unanswered::Memory => Err(Unanswered::Memory),
         },
@@ -181,12 +190,13 @@ pub(crate) fn page_of_session<
     crew: &Crew<'_, '_, S, G>,
     alloc: Global,
     inquiry: Inquiry<'_, '_, '_>,
+    extras: &Extras<'_>,
     files: &[StreamFile<'_>],
     readers: Vec<R>,
 ) -> Result<Page, Unanswered>
     requires { All (λ r. R.has_ended r ≡ false) readers.items }
-    ensures page { IfOk result (λ page. IsPageOfInputs (inquiry_view inquiry.entry) (files_view files.now)
-        (map R.left readers.items) (IsGiven (Ok page.report)) page.text.items) }
+    ensures page { IfOk result (λ page. IsPageOfInputs (inquiry_view inquiry.entry) (extras_view extras.now)
+        (files_view files.now) (map R.left readers.items) (IsGiven (Ok page.report)) page.text.items) }
     ensures refused { IfErr result (IsUnanswered
         (IsReportOfInputs (inquiry_view inquiry.entry) (map R.left readers.items))) }
 {
@@ -194,5 +204,5 @@ pub(crate) fn page_of_session<
     let gathered = read_streams(crew.runtime(), alloc, &spec, readers)?;
     let traces = traces_of(alloc, &spec, gathered)?;
     let sources = sources_of(alloc, &spec, files, &traces)?;
-    page_of_traces(crew, alloc, &spec, &sources, &traces)
+    page_of_traces(crew, alloc, &spec, extras, &sources, &traces)
 }

@@ -11,8 +11,11 @@ const HOW_TO_MOVE = "Move it: click an event, drag a grip, or use the arrow keys
 
 window.addEventListener("error", (event) => { byId("status").textContent = "The page failed: " + event.message; });
 
-const run = readRun(JSON.parse(byId("data").textContent));
+const data = JSON.parse(byId("data").textContent);
 byId("data").remove();
+const run = readRun(data);
+run.wishes = readWishes(run, run.cycle !== null ? [] : data.wishes ?? []);
+run.notes = (data.notes ?? []).length === 0 ? null : new Notes(run, data.notes);
 
 const state = {
   cut: run.counts.map(() => 0), before: run.counts.map(() => 0), forced: [], undo: [],
@@ -334,7 +337,6 @@ function updateView() {
 // ---- the film ---------------------------------------------------------------------------------------------------
 
 function playFilm(k) {
-  select(null);   // what lies before and after an event isn't shaded while the film runs
   openFilm(k);
   if (run.eventCount > 0) play();
 }
@@ -365,6 +367,7 @@ function toStep(step) {
 
 function play() {
   if (timer !== 0) return pause();
+  if (state.selected !== null) select(null);   // what is before and after an event isn't shaded while the film runs
   if (state.film.step >= run.eventCount) toStep(0);
   let last = performance.now();
   const turn = (now) => {
@@ -426,7 +429,7 @@ function toHit(step) {
   state.hit = state.hit < 0 ? (step > 0 ? 0 : count - 1) : (state.hit + step + count) % count;
   const { p, i, why } = state.hits[state.hit];
   select(p, i);
-  byId("matches").textContent = state.hit + 1 + " of " + count.toLocaleString("en") + ": " + why;
+  byId("matches").textContent = state.hit + 1 + " of " + count.toLocaleString("en") + ": " + plainText(why);
 }
 
 // ---- keys -------------------------------------------------------------------------------------------------------
@@ -515,19 +518,29 @@ function readAddress() {
 
 // ---- the start --------------------------------------------------------------------------------------------------
 
-function start() {
+function countsText() {
+  return plainText(sessionName(run)) + ": " + counted(run.size, "process", "processes") + ", " +
+    counted(run.eventCount, "event") + ", " + counted(run.received, "message") +
+    (run.inFlight > 0 ? " and " + run.inFlight.toLocaleString("en") + " in flight" : "") +
+    (run.notes === null ? "" : ", " + counted(run.notes.count, "note"));
+}
+
+// What stands above the run, and what is made once for it.
+function makePage() {
+  const came = cameOfAll(run.wishes);
   byId("verdict").textContent = verdictText(run);
-  document.title = verdictText(run) + " – monitor explore";
-  byId("counts").textContent = counted(run.size, "process", "processes") + ", " + counted(run.eventCount, "event") +
-    ", " + counted(run.received, "message") +
-    (run.inFlight > 0 ? " and " + run.inFlight.toLocaleString("en") + " in flight" : "");
+  if (came !== "") byId("verdict").className = classOf(came);
+  document.title = plainText(titleText(run));
+  byId("counts").textContent = countsText();
+  byId("wrong-notes").textContent = [wrongNotesText(run), wrongLinkText(run)].filter((text) => text !== "").join(" ");
+  document.documentElement.classList.toggle("noted", run.notes !== null);
   makeLanes();
   cards = makePredicates(run, actions);
   rows = makeValues(run, actions);
   byId("typed").placeholder = "as " + (run.predicates[0]?.text ?? "true");
   run.names.forEach((name, p) => byId("listing-process").append(element("option", { value: String(p) }, name)));
   FILM_SPEEDS.forEach((speed) => byId("film-speed").append(element("option", { value: String(speed) }, String(speed))));
-  canvas.setAttribute("aria-label", "The run: " + byId("counts").textContent + ". " + (run.cycle !== null
+  canvas.setAttribute("aria-label", "The run: " + countsText() + ". " + (run.cycle !== null
     ? "An event is selected" : "The cut is moved") + " on the lanes beside; the events are listed as a table below.");
   if (run.cycle !== null) {
     document.documentElement.classList.add("cycle");
@@ -537,25 +550,34 @@ function start() {
   }
   overview.hidden = run.lastColumn < 24;
   byId("stage").classList.toggle("last", overview.hidden);
-  measure();
-  const evident = run.predicates.findIndex((each) => each.possibly[0] === "yes");
-  state.shown = Math.max(0, evident);
-  if (evident >= 0) {
-    state.cut = state.before = run.predicates[evident].possibly[1].slice();
-    say(run.predicates[evident].name + " is true at this cut. " + HOW_TO_MOVE);
-  } else if (run.cycle === null) say("The cut before all events. " + HOW_TO_MOVE);
-  else {
+}
+
+// Opens at the first evidence, or at what the address says.
+function openFirst() {
+  const evidence = run.cycle === null ? firstEvidence(run) : null;
+  state.shown = evidence?.k ?? 0;
+  if (run.cycle !== null) {
     state.cut = state.before = run.counts.slice();
     say("The session is refused: its events make a causal cycle, which is marked.");
+  } else if (evidence === null) say("The cut before all events. " + HOW_TO_MOVE);
+  else if (evidence.is === "cut") {
+    state.cut = state.before = run.predicates[evidence.k].possibly[1].slice();
+    say(run.predicates[evidence.k].name + " is true at this cut. " + HOW_TO_MOVE);
   }
   setView(0, firstScale());
   state.lane = Math.max(0, state.cut.findIndex((count) => count > 0));
   list(state.lane, state.cut[state.lane]);
+  if (evidence?.is === "film" && !/[#&](cut|film)=/.test(location.hash)) openFilm(evidence.k);
   const given = readAddress();
   if (given.view === null && given.selected !== null) reveal(run.columns[given.selected.p][given.selected.i]);
   else if (given.view === null) revealCut();
-  watchPointer();
-  const onClick = (id, act) => byId(id).addEventListener("click", act);
+}
+
+function onClick(id, act) {
+  byId(id).addEventListener("click", act);
+}
+
+function watchTools() {
   const cutAt = (cut, text) => { pause(); setCut(cut, { text }); revealCut(); };
   onClick("to-empty", () => cutAt(run.counts.map(() => 0), "Nothing has happened."));
   onClick("to-full", () => cutAt(run.counts.slice(), "All has happened."));
@@ -570,12 +592,22 @@ function start() {
   onClick("named-first", namedFirst);
   onClick("reset-lanes", resetLanes);
   onClick("copy-text", copyText);
+  onClick("help-button", () => byId("help").showModal());
+}
+
+function watchFilm() {
   onClick("film-play", play);
   onClick("film-back", () => { pause(); toStep(state.film.step - 1); });
   onClick("film-on", () => { pause(); toStep(state.film.step + 1); });
   onClick("film-close", closeFilm);
-  onClick("help-button", () => byId("help").showModal());
-  onClick("previous", () => toHit(-1));
+  byId("film-step").addEventListener("input", (event) => {
+    const step = Number(event.target.value);
+    pause();
+    toStep(step);
+  });
+}
+
+function watchListing() {
   onClick("listing-earlier", () => { state.listing.first -= LISTING_ROWS; updateListing(run, state, actions); });
   onClick("listing-later", () => { state.listing.first += LISTING_ROWS; updateListing(run, state, actions); });
   byId("listing-process").addEventListener("change", (event) => {
@@ -583,11 +615,10 @@ function start() {
     state.listing = { p, first: Math.max(1, state.cut[p] - LISTING_ROWS / 2) };
     updateListing(run, state, actions);
   });
-  byId("film-step").addEventListener("input", (event) => {
-    const step = Number(event.target.value);
-    pause();
-    toStep(step);
-  });
+}
+
+function watchFields() {
+  onClick("previous", () => toHit(-1));
   byId("find").addEventListener("submit", (event) => { event.preventDefault(); toHit(1); });
   byId("query").addEventListener("keydown", (event) => {
     if (event.key === "Enter" && event.shiftKey) { event.preventDefault(); toHit(-1); }
@@ -601,6 +632,9 @@ function start() {
     updateTyped(run, state);
   });
   byId("type").addEventListener("submit", (event) => event.preventDefault());
+}
+
+function watchWindow() {
   document.addEventListener("keydown", pageKey);
   window.addEventListener("hashchange", () => { if (location.hash !== written) readAddress(); });
   new ResizeObserver(() => {
@@ -608,8 +642,8 @@ function start() {
   }).observe(byId("picture"));
   window.addEventListener("resize", measure);
   const recolour = () => { palette = readPalette(); measure(); };
-  for (const wish of ["(prefers-color-scheme: dark)", "(forced-colors: active)"]) {
-    matchMedia(wish).addEventListener("change", recolour);
+  for (const query of ["(prefers-color-scheme: dark)", "(forced-colors: active)"]) {
+    matchMedia(query).addEventListener("change", recolour);
   }
   let onScreen = null;
   const printed = (on) => {
@@ -622,7 +656,20 @@ function start() {
   };
   window.addEventListener("beforeprint", () => printed(true));
   window.addEventListener("afterprint", () => printed(false));
-  document.documentElement.classList.add("ready");
 }
 
-start();
+function start() {
+  makePage();
+  measure();
+  openFirst();
+  watchPointer();
+  watchTools();
+  watchFilm();
+  watchListing();
+  watchFields();
+  watchWindow();
+}
+
+if (run.refusal === null) start();
+else showRefusal(run);
+document.documentElement.classList.add("ready");

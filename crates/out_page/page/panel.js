@@ -42,12 +42,25 @@ function cutNodes(cut) {
 
 // ---- predicates -------------------------------------------------------------------------------------------------
 
-// A card leads with what is so of the whole run, and says after its evidence what is so at the cut shown.
+// The class of what came of wishes; its sign is the style's.
+function classOf(came) {
+  return { [AS_WISHED]: "granted", [NOT_AS_WISHED]: "broken", unknown: "unsure" }[came];
+}
+
+// What a card leads with: what came of its wishes, and without one what is so of the whole run.
+function verdictNode(predicate, wishes) {
+  const came = cameOfAll(wishes);
+  if (came !== "") return element("span", { class: "verdict " + classOf(came) }, came);
+  const verdict = verdictOf(predicate);
+  return element("span", { class: "verdict " + verdict.split(" ")[0] }, verdict);
+}
+
+// A card says after its verdict and its evidence what is so at the cut shown.
 function makePredicates(run, actions) {
   return run.predicates.map((predicate, k) => {
     const badge = element("span", { class: "badge" });
     const why = element("ul", { class: "why" });
-    const verdict = verdictOf(predicate);
+    const wishes = run.wishes.filter((wish) => wish.k === k);
     const answers = element("dl", { class: "answers" },
       element("dt", {}, "Possibly"), possiblyOf(run, predicate, k, actions),
       element("dt", {}, "Definitely"), definitelyOf(run, predicate, k, actions));
@@ -55,7 +68,8 @@ function makePredicates(run, actions) {
                                      click: () => actions.show(k) }, predicate.name);
     const open = predicate.possibly[0] === "unknown" || predicate.definitely[0] === "unknown";
     const card = element("article", { class: "predicate" },
-      element("h3", {}, name, element("span", { class: "verdict " + verdict.split(" ")[0] }, verdict)),
+      element("h3", {}, name, verdictNode(predicate, wishes)),
+      ...wishes.map((wish) => element("p", { class: "wish" }, wishText(predicate, wish))),
       element("code", {}, predicate.text), answers,
       open ? element("p", { class: "hint" }, whatToDo(run)) : null,
       element("p", { class: "at" }, "At the cut shown: ", badge), why);
@@ -151,13 +165,18 @@ function turned(run, before, after) {
   });
 }
 
-// The run, the cut and the values at it as lines of text, to be pasted into a report of a bug.
+// The run, the cut and the values at it as lines of text, to be pasted into a report of a bug; of each process also the
+// note of its last event in the cut.
 function asText(run, cut) {
+  const noted = (p) => (cut[p] === 0 ? "" : noteWords(run, p, cut[p]));
   const values = run.names.map((name, p) => name + " after " + cut[p] + " of " + counted(run.counts[p], "event") +
-    run.vars[p].map(({ name: variable }, v) => ", " + variable + " = " + valueAt(run, p, v, cut[p])).join(""));
-  const answers = run.predicates.map((each) => each.name + " " + verdictOf(each) + ", and is " +
-    isTrue(each.node, reader(run, cut)) + " at this cut: " + each.text);
-  return [verdictText(run) + ".", ...answers, "The cut " + cut.join(",") + ":", ...values, ""].join("\n");
+    run.vars[p].map(({ name: variable }, v) => ", " + variable + " = " + valueAt(run, p, v, cut[p])).join("") +
+    (noted(p) === "" ? "" : ", " + noted(p)));
+  const answers = run.predicates.map((each, k) => each.name + " " + verdictOf(each) +
+    run.wishes.filter((wish) => wish.k === k).map(({ kind, came }) => " (wished " + kind + ": " + came + ")").join("") +
+    ", and is " + isTrue(each.node, reader(run, cut)) + " at this cut: " + each.text);
+  return [sessionName(run) + ": " + verdictText(run) + ".", ...answers, "The cut " + cut.join(",") + ":", ...values, ""]
+    .join("\n");
 }
 
 // Which predicates are true at a cut, in words.
@@ -174,72 +193,82 @@ function makeCycle(run, actions) {
   const at = ({ p, i }) => element("button", { type: "button", class: "plain", click: () => actions.select(p, i) },
     placeText(run, p, i));
   const steps = run.cycle.map(({ message, receipt, send, next }) => element("li", {}, at(receipt), " receives ",
-    element("code", {}, run.messages.ids[message]), " from ", at(send),
+    element("code", {}, plainText(run.messages.ids[message])), " from ", at(send),
     ...(send.i === next.i ? [""] : [", which comes after ", at(next)])));
   byId("cycle").append(element("p", {}, "The session is refused: its events make a causal cycle. Going back from " +
     "each receipt to the send, and along that process to the receipt before it, one comes to the first receipt again:"),
     element("ol", {}, ...steps), element("p", {}, "So each of these events would have happened before itself. No " +
-    "run is so: the recording has events in a wrong order, or gives a message a wrong id. There is no cut to move, and " +
-    "no predicate is answered."));
+    "run is so: the recording has events in a wrong order, or gives a message a wrong id. There is no cut to move, " +
+    "and no predicate is answered."));
 }
 
 // ---- values -----------------------------------------------------------------------------------------------------
 
+// A grid: of each process its variables, as many side by side as there is room for.
 function makeValues(run, actions) {
-  const rows = [];
-  run.names.forEach((name, p) => {
-    const body = element("tbody", {});
+  return run.names.map((name, p) => {
     const count = element("span", { class: "count" });
-    body.append(element("tr", { class: "process" }, element("th", { colspan: "3", scope: "rowgroup" }, name, count)));
-    run.vars[p].forEach((variable, v) => {
-      const value = element("td", { class: "value" });
-      const by = element("td", { class: "by" });
-      const row = element("tr", {}, element("th", { scope: "row" }, variable.name), value, by);
-      rows.push({ p, v, row, value, by });
-      body.append(row);
+    const list = element("dl", { class: "cells" });
+    const wide = ["of-one", "of-one", "of-two"][run.vars[p].length] ?? "";
+    const title = element("h3", {}, element("span", {}, name), count);
+    const body = element("section", { class: "process " + wide }, title, list);
+    const cells = run.vars[p].map((variable, v) => {
+      const value = element("span", { class: "value" });
+      const by = element("span", { class: "by" });
+      const cell = element("div", { class: "cell" }, element("dt", {}, variable.name), element("dd", {}, value, by));
+      return { p, v, cell, value, by };
     });
-    rows.push({ p, v: -1, count, body });
+    list.append(...cells.map(({ cell }) => cell));
     byId("values").append(body);
+    return { p, body, count, list, cells, order: "", select: (i) => actions.select(p, i) };
   });
-  return rows.map((row) => ({ ...row, select: (i) => actions.select(row.p, i) }));
 }
 
-// The processes that the predicate shown names come first, with what it names of them marked.
-let orderedFor = null;
-function orderValues(run, state, rows) {
-  if (orderedFor === state.shown) return;
-  orderedFor = state.shown;
-  const refs = state.shown < 0 || run.cycle !== null ? [] : run.predicates[state.shown].refs;
-  const named = processesOf(refs);
-  const isNamed = (p, v) => refs.some((ref) => ref[0] === p && ref[1] === v);
-  const bodies = rows.filter(({ v }) => v < 0);
-  for (const { p, v, row } of rows) if (v >= 0) row.classList.toggle("named", isNamed(p, v));
-  byId("values").append(...[...bodies.filter(({ p }) => named.has(p)), ...bodies.filter(({ p }) => !named.has(p))]
-    .map(({ body }) => body));
+// Puts the children of a node in this order, if they have another one, and keeps the focus.
+function reorder(node, children) {
+  if (children.every((child, k) => node.children[k] === child)) return;
+  const focused = document.activeElement;
+  node.append(...children);
+  if (node.contains(focused)) focused.focus();
+}
+
+// What is named comes first, then what changed, and then the rest.
+function byRank(list, rank) {
+  return list.map((each) => [rank(each), each]).sort(([a], [b]) => a - b).map(([, each]) => each);
 }
 
 function updateValues(run, state, rows) {
-  orderValues(run, state, rows);
-  for (const { p, v, row, value, by, count, select } of rows) {
-    const events = state.cut[p];
-    if (v < 0) {
-      count.textContent = events + " of " + run.counts[p];
-      continue;
+  const refs = state.shown < 0 || run.cycle !== null ? [] : run.predicates[state.shown].refs;
+  const isNamed = (p, v) => refs.some((ref) => ref[0] === p && ref[1] === v);
+  const isChanged = (p, v) => valueAt(run, p, v, state.cut[p]) !== valueAt(run, p, v, state.before[p]);
+  const rank = ({ p, v }) => (isNamed(p, v) ? 0 : isChanged(p, v) ? 1 : 2);
+  const ranks = rows.map(({ cells }) => Math.min(2, ...cells.map(rank)));
+  for (const row of rows) {
+    row.count.textContent = state.cut[row.p] + " of " + run.counts[row.p];
+    for (const each of row.cells) {
+      each.cell.classList.toggle("named", isNamed(each.p, each.v));
+      updateValue(run, state, each, row.select);
     }
-    const now = valueAt(run, p, v, events);
-    const before = valueAt(run, p, v, state.before[p]);
-    const setter = settingEvent(run, p, v, events);
-    const fresh = setter === events && events > 0;
-    renew(value, now + " " + before,
-      () => [now, ...(now === before ? [] : [element("span", { class: "was" }, " was " + before)])]);
-    row.classList.toggle("changed", now !== before);
-    row.classList.toggle("fresh", fresh);
-    renew(by, setter + " " + fresh, () => (setter === 0 ? ["initial"]
-      : [element("button", { type: "button", class: "plain", "aria-label": "select event " + placeText(run, p, setter),
-                             click: () => select(setter) }, "#" + setter),
-         fresh ? element("span", { class: "last", title: "the last event of this process in the cut set it" }, " last")
-           : null].filter((each) => each !== null)));
+    reorder(row.list, byRank(row.cells, rank).map(({ cell }) => cell));
   }
+  reorder(byId("values"), byRank(rows, ({ p }) => ranks[p]).map(({ body }) => body));
+}
+
+function updateValue(run, state, { p, v, cell, value, by }, select) {
+  const events = state.cut[p];
+  const now = valueAt(run, p, v, events);
+  const before = valueAt(run, p, v, state.before[p]);
+  const setter = settingEvent(run, p, v, events);
+  const fresh = setter === events && events > 0;
+  renew(value, now + " " + before,
+    () => [now, ...(now === before ? [] : [element("span", { class: "was" }, " was " + before)])]);
+  cell.classList.toggle("changed", now !== before);
+  cell.classList.toggle("fresh", fresh);
+  renew(by, setter + " " + fresh, () => (setter === 0 ? ["initial"]
+    : [element("button", { type: "button", class: "plain", "aria-label": "select event " + placeText(run, p, setter),
+                           click: () => select(setter) }, "#" + setter),
+       fresh ? element("span", { class: "last", title: "the last event of this process in the cut set it" }, " last")
+         : null].filter((each) => each !== null)));
 }
 
 // ---- an event ---------------------------------------------------------------------------------------------------
@@ -276,7 +305,34 @@ function eventText(run, p, i) {
     parts.push(message.verb + " " + message.id + (message.ends.length === 0 ? ", in flight"
       : ", " + message.words + " " + message.ends.map((end) => placeText(run, end.p, end.i)).join(", ")));
   }
-  return parts.join("; ");
+  const noted = noteWords(run, p, i);
+  return parts.map(plainText).concat(noted === "" ? [] : [noted]).join("; ");
+}
+
+// A note's text, or a part of it, as letters whose direction stays their own.
+function noteNode(text) {
+  const plain = plainText(text);
+  return element("bdi", { class: "note", dir: plain === text ? "auto" : "ltr" }, plain);   // escapes read from the left
+}
+
+// A note's place, as a link if the page has a pattern for links that it fits.
+function placeNode(run, place) {
+  const address = linkOf(run.link, place);
+  if (address === null) return noteNode(place);
+  const isWeb = /^https?:/i.test(address);
+  return element("a", { href: address, rel: "noopener noreferrer", target: isWeb ? "_blank" : null }, noteNode(place));
+}
+
+// What the note of an event says, as rows of the list beside the drawing.
+function addNote(run, p, i, add) {
+  const note = noteAt(run, p, i);
+  if (note === null) {
+    if (run.notes !== null) add("Note", "none");
+    return;
+  }
+  if (note.text !== "") add("Note", noteNode(note.text));
+  if (note.place !== "") add("Recorded by", placeNode(run, note.place));
+  if (note.clock !== null) add("By the clock", clockText(note.clock));
 }
 
 function updateEvent(run, state, actions) {
@@ -294,13 +350,15 @@ function updateEvent(run, state, actions) {
   const list = element("dl", {});
   const add = (term, ...words) => list.append(element("dt", {}, term), element("dd", {}, ...words));
   if (run.cycle === null) add("At the cut", i <= state.cut[p] ? "it has happened" : "it has not happened");
-  add("Recorded in", sourceOf(run, p, i));
+  addNote(run, p, i, add);
+  add("Recorded in", plainText(sourceOf(run, p, i)));
   const sets = setsOf(run, p, i);
   add("Sets", sets.length === 0 ? "nothing"
     : sets.map(({ name, value, before: old }) => name + " = " + value + " (was " + old + ")").join(", "));
   const message = messageOf(run, p, i);
   if (message !== null) {
-    add(message.verb === "sends" ? "Sends" : "Receives", element("code", {}, message.id), ", " + message.words,
+    add(message.verb === "sends" ? "Sends" : "Receives", element("code", {}, plainText(message.id)),
+      ", " + message.words,
       ...message.ends.flatMap((end) => [" ", element("button",
         { type: "button", class: "plain", click: () => actions.select(end.p, end.i) }, placeText(run, end.p, end.i))]));
   }
@@ -336,7 +394,8 @@ function updateListing(run, state, actions) {
         click: () => actions.select(p, i), "aria-label": "select event " + placeText(run, p, i) }, "#" + i)),
       element("td", {}, lineOf(run, p, i)),
       element("td", {}, setsOf(run, p, i).map(({ name, value }) => name + " = " + value).join(", ")),
-      element("td", {}, message === null ? "" : message.verb + " " + message.id),
+      element("td", {}, message === null ? "" : message.verb + " " + plainText(message.id)),
+      element("td", { class: "of-notes" }, noteNode(excerpt(noteAt(run, p, i)?.text ?? "", NOTE_EXCERPT))),
       element("td", { class: "of-cuts" }, i <= state.cut[p] ? "yes" : ""));
   };
   const chosen = state.selected !== null && state.selected.p === p ? state.selected.i : 0;
@@ -355,8 +414,9 @@ function moveText(run, before, after, p, forced) {
   const told = forced.slice(0, 3).map((m) => {
     const send = placeText(run, from[m], fromEvent[m]);
     const receipt = placeText(run, to[m], toEvent[m]);
-    return after[p] > before[p] ? send + " came with it, for it sends " + ids[m] + " to " + receipt
-      : receipt + " went with it, for it receives " + ids[m] + " from " + send;
+    const id = plainText(ids[m]);
+    return after[p] > before[p] ? send + " came with it, for it sends " + id + " to " + receipt
+      : receipt + " went with it, for it receives " + id + " from " + send;
   });
   if (forced.length > 3) told.push("and " + counted(forced.length - 3, "process", "processes") + " more moved");
   return where + (told.length === 0 ? "" : " " + told.join("; ") + ".");

@@ -163,13 +163,6 @@ class SvgContext {
   }
 }
 
-// A text that is at most this wide, cut at its end if it has to be.
-function fitting(context, text, width) {
-  let shown = text;
-  for (let end = text.length; context.measureText(shown).width > width && end > 1;) shown = text.slice(0, --end) + "…";
-  return shown;
-}
-
 function nameFont(palette, isFolded) {
   return (isFolded ? "11px " : "bold 13px ") + palette.font;
 }

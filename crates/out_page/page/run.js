@@ -4,13 +4,22 @@
 
 // ---- the run ----------------------------------------------------------------------------------------------------
 
-function readRun(data) {
-  if (data.format !== 1) throw new Error("this page reads format 1, and the data says " + data.format);
+// What a page has of a session that is refused without a run: nothing but its report and the explanation.
+const NO_RUN = { width: 1, processes: [], initial: [], sources: [], events: [], messages: [], predicates: [],
+                 answers: [] };
+
+function readRun(given) {
+  if (given.format !== 1) throw new Error("this page reads format 1, and the data says " + given.format);
+  const data = given.refusal === undefined ? given : { ...NO_RUN, ...given };
   const { events } = data;
   const names = data.processes.map((process) => process.name);
   const run = {
     width: data.width,
     beyondWidth: data.beyond_width,
+    refusal: data.refusal ?? null,
+    link: data.link ?? null,
+    wishes: [],     // read by `readWishes`
+    notes: null,    // read by `Notes`, if the page has any
     size: names.length,
     names,
     sources: data.sources,
@@ -27,6 +36,7 @@ function readRun(data) {
   run.whole = { columns: run.columns, lastColumn: run.lastColumn, spans: run.spans, only: null,
                 shown: run.columns.map((columns) => ({ events: null, columns })) };
   Object.assign(run, run.whole);
+  run.places = placesOf(run);
   // Of a run that is refused no predicate is answered.
   run.predicates = run.cycle !== null ? [] : data.predicates.map((tree, k) => {
     const node = readPredicate(tree, names, run.vars);
@@ -397,39 +407,6 @@ function refsOf(node) {
   return [...refs.values()];
 }
 
-// What the answers say of the whole run, in two words: an answer that is yes counts before one that is unknown.
-function verdictOf({ possibly: [possibly], definitely: [definitely] }) {
-  if (definitely === "yes") return "always happens";
-  if (possibly === "yes") return "can happen";
-  return possibly === "no" ? "cannot happen" : "unknown";
-}
-
-// The verdict on the run: which predicates happen, and how many are unknown.
-const NAMES_SHOWN = 3;
-function verdictText(run) {
-  if (run.cycle !== null) return "Refused: a causal cycle";
-  const of = (...verdicts) =>
-    run.predicates.filter((each) => verdicts.includes(verdictOf(each))).map(({ name }) => name);
-  const [only] = run.predicates;
-  if (run.predicates.length === 1) {
-    return verdictOf(only) === "unknown" ? "It is unknown whether " + only.name + " can happen"
-      : only.name + " " + verdictOf(only);
-  }
-  const [happen, always, unknown] = [of("can happen", "always happens"), of("always happens"), of("unknown")];
-  const listed = (names) => names.slice(0, NAMES_SHOWN).join(", ") +
-    (names.length > NAMES_SHOWN ? " and " + (names.length - NAMES_SHOWN) + " more" : "");
-  const all = " of " + run.predicates.length + " predicates ";
-  if (happen.length === 0) {
-    return unknown.length === 0 ? "None" + all + "can happen" : unknown.length + all +
-      (unknown.length === 1 ? "is unknown" : "are unknown") +
-      (unknown.length < run.predicates.length ? "; no other can happen" : "");
-  }
-  const parts = [happen.length + all + "can happen: " + listed(happen)];
-  if (always.length > 0) parts.push(listed(always) + " always " + (always.length === 1 ? "happens" : "happen"));
-  if (unknown.length > 0) parts.push(unknown.length + (unknown.length === 1 ? " is" : " are") + " unknown");
-  return parts.join("; ");
-}
-
 // The processes that a predicate names.
 function processesOf(refs) {
   return new Set(refs.map(([p]) => p));
@@ -520,62 +497,119 @@ function cutAtStep(steps, step) {
 
 // ---- finding ----------------------------------------------------------------------------------------------------
 
-// The events that a query asks for, by column and process, each with the words that say why.
+// The events that a query asks for, by column and process, each with the words that say why. A note is found by a part
+// of it, unless a value or an event's number is asked for; by a part of its name anything else is found, if nothing has
+// the query as its whole name.
 function find(run, query) {
   const text = query.trim();
   if (text === "") return [];
-  const hits = new Map();
-  const add = (p, i, why) => {
-    if (i >= 1 && i <= run.counts[p] && !hits.has(p * 2 ** 24 + i)) hits.set(p * 2 ** 24 + i, { p, i, why });
-  };
+  const hits = new Hits(run);
+  const add = (p, i, why) => hits.add(p, i, why);
+  const isAsked = findAsked(run, text, add);
+  findNamed(run, text, add);
+  const isNamed = hits.size > 0;
+  if (text.length < 2 || (isAsked && isNamed)) return hits.inOrder();
+  const part = text.toLowerCase();
+  run.notes?.find(part, (p, i) => add(p, i, "by its note"));
+  if (!isNamed) findParts(run, part, add);
+  return hits.inOrder();
+}
+
+// Events that were found, each with the words that say why it was first. There may be some hundred thousand of them.
+class Hits {
+  constructor(run) {
+    this.run = run;
+    this.why = new Array(run.eventCount).fill(null);
+    this.size = 0;
+  }
+
+  add(p, i, why) {
+    if (i < 1 || i > this.run.counts[p]) return;
+    const at = this.run.places.first[p] + i - 1;
+    if (this.why[at] !== null) return;
+    this.why[at] = why;
+    this.size++;
+  }
+
+  inOrder() {
+    const { first, process, order } = this.run.places;
+    const found = [];
+    for (const at of order) {
+      const why = this.why[at];
+      if (why !== null) found.push({ p: process[at], i: at - first[process[at]] + 1, why });
+    }
+    return found;
+  }
+}
+
+// Of each process the place of its first event among all, of each place the process, and all places by column and
+// process.
+function placesOf(run) {
+  const { columns } = run.whole;
+  const first = [];
+  const process = new Uint8Array(run.eventCount);
+  const keys = new Float64Array(run.eventCount);
+  let at = 0;
+  run.counts.forEach((count, p) => {
+    first.push(at);
+    for (let i = 1; i <= count; i++, at++) {
+      process[at] = p;
+      keys[at] = columns[p][i] * 2 ** 24 + at;   // places rise with the process
+    }
+  });
+  return { first, process, order: Uint32Array.from(keys.sort(), (key) => key % 2 ** 24) };
+}
+
+function addEvents(run, p, add) {
+  for (let i = 1; i <= run.counts[p]; i++) add(p, i, "is an event of " + run.names[p]);
+}
+
+function addMessage({ messages: { ids, from, fromEvent, to, toEvent } }, m, add) {
+  add(from[m], fromEvent[m], "sends " + ids[m]);
+  if (to[m] >= 0) add(to[m], toEvent[m], "receives " + ids[m]);
+}
+
+// What is asked for by a value, or by an event's number. Is the query one of these?
+function findAsked(run, text, add) {
   const asked = (name) => run.names.map((_, p) => p).filter((p) => name === undefined || run.names[p] === name);
-  const { ids, from, fromEvent, to, toEvent } = run.messages;
-  const addMessage = (m) => {
-    add(from[m], fromEvent[m], "sends " + ids[m]);
-    if (to[m] >= 0) add(to[m], toEvent[m], "receives " + ids[m]);
-  };
-  let match = /^(?:(\w+)\s*\.\s*)?(\w+)\s*(==|=|!=|<=|>=|<|>)\s*(-?\d+)$/.exec(text);
-  if (match !== null) {
-    const [, name, wanted, relation, number] = match;
+  const value = /^(?:(\w+)\s*\.\s*)?(\w+)\s*(==|=|!=|<=|>=|<|>)\s*(-?\d+)$/.exec(text);
+  if (value !== null) {
+    const [, name, wanted, relation, number] = value;
     const bound = BigInt(number);
     const exactly = String(bound);
-    const fits = relation === "=" || relation === "==" ? (value) => value === exactly
-      : (value) => compare(BigInt(value), relation, bound);
+    const fits = relation === "=" || relation === "==" ? (each) => each === exactly
+      : (each) => compare(BigInt(each), relation, bound);
     for (const p of asked(name)) {
       for (const variable of run.vars[p].filter((each) => each.name === wanted)) {
-        variable.values.forEach((value, k) => {
-          if (fits(value)) add(p, variable.at[k], "sets " + wanted + " to " + value);
+        variable.values.forEach((each, k) => {
+          if (fits(each)) add(p, variable.at[k], "sets " + wanted + " to " + each);
         });
       }
     }
   }
-  match = /^(?:(\w+)\s*[# ]\s*|#)?(\d+)$/.exec(text);
-  if (match !== null) {
-    for (const p of asked(match[1])) add(p, Number(match[2]), "is event " + match[2]);
+  const event = /^(?:(\w+)\s*[# ]\s*|#)?(\d+)$/.exec(text);
+  if (event !== null) {
+    for (const p of asked(event[1])) add(p, Number(event[2]), "is event " + event[2]);
   }
-  const addEvents = (p) => {
-    for (let i = 1; i <= run.counts[p]; i++) add(p, i, "is an event of " + run.names[p]);
-  };
+  return value !== null || event !== null;
+}
+
+// What is called so: the events of a process, or the ends of a message.
+function findNamed(run, text, add) {
   const process = run.names.indexOf(text);
-  if (process >= 0) addEvents(process);
-  const named = ids.includes(text);
-  if (named) ids.forEach((id, m) => { if (id === text) addMessage(m); });
-  if (hits.size > 0 || text.length < 2) return inOrder(run, hits);
-  // Nothing is called so: what has it as a part of its name.
-  const part = text.toLowerCase();
+  if (process >= 0) addEvents(run, process, add);
+  const { ids } = run.messages;
+  for (let m = ids.indexOf(text); m >= 0; m = ids.indexOf(text, m + 1)) addMessage(run, m, add);
+}
+
+// What has a text of small letters as a part of its name.
+function findParts(run, part, add) {
   const has = (name) => name.toLowerCase().includes(part);
-  run.names.forEach((name, p) => { if (has(name)) addEvents(p); });
+  run.names.forEach((name, p) => { if (has(name)) addEvents(run, p, add); });
   run.vars.forEach((vars, p) => vars.filter(({ name }) => has(name)).forEach(({ name, at, values }) => {
     at.forEach((i, k) => add(p, i, "sets " + name + " to " + values[k]));
   }));
-  ids.forEach((id, m) => { if (has(id)) addMessage(m); });
-  return inOrder(run, hits);
-}
-
-// Hits by column and process.
-function inOrder(run, hits) {
-  const { columns } = run.whole;
-  return [...hits.values()].sort((a, b) => columns[a.p][a.i] - columns[b.p][b.i] || a.p - b.p);
+  run.messages.ids.forEach((id, m) => { if (has(id)) addMessage(run, m, add); });
 }
 
 // ---- the address ------------------------------------------------------------------------------------------------
@@ -631,5 +665,5 @@ if (typeof module === "object") {
   module.exports = { readRun, messagesBetween, countUpTo, clockAt, levelOf, isCut, isConsistent, including, excluding,
                      firstFrom, moveTo, forcing, isUpTo, coneOf, settingEvent, valueAt, reader, readPredicate, isTrue,
                      deciding, stepsOf, cutAtStep, find, fragmentOf, readFragment, sentBy, lineOf, sourceOf,
-                     verdictOf, verdictText, RELATIONS };
+                     processesOf, RELATIONS };
 }

@@ -14,8 +14,7 @@ const { showOnly, showAll, eventAt } = require("./matter.js");
 const { layOut, laneY, laneAt, placeAt, movedTo, withFirst } = require("./lanes.js");
 const { escaped, paintOf } = require("./picture.js");
 const { readRun, isConsistent, moveTo, valueAt, reader, readPredicate, isTrue, deciding, stepsOf, cutAtStep, find,
-        fragmentOf, readFragment, coneOf, messagesBetween, sentBy, levelOf, lineOf, sourceOf,
-        verdictOf, verdictText } = script;
+        fragmentOf, readFragment, coneOf, messagesBetween, sentBy, levelOf, lineOf, sourceOf } = script;
 
 const MONITOR = process.env.MONITOR;
 const EXAMPLES = process.env.EXAMPLES;
@@ -408,7 +407,8 @@ test("the data is that of the session, each event, message and value of it", nee
     const made = session(chance, 1 + chance(5), 40, seed % 2 === 0);
     const predicates = Array.from({ length: 8 }, () => predicateOf(chance, made.processes));
     const { spec, streams } = write(made, predicates);
-    const { answers, ...data } = explored(spec, streams);
+    const { answers, wishes = [], notes = [], link = null, ...data } = explored(spec, streams);
+    assert.deepEqual([wishes, notes, link], [[], [], null]);
     const { answers: none, ...wanted } = dataOf(made, predicates);
     assert.deepEqual(data, wanted);
     const report = monitor("judge", spec, ...streams).trimEnd().split("\n").slice(1);
@@ -631,29 +631,6 @@ test("a predicate that is typed is read as the program reads it, and what is non
   const nested = (depth) => "(".repeat(depth) + "true" + ")".repeat(depth);
   assert.equal(wrong(nested(65)), "More than 64 parentheses and nots stand inside each other.");
   assert.equal(wrong(nested(64)), "");
-});
-
-test("the verdict on the run", () => {
-  const answered = (name, possibly, definitely) => ({ name, possibly: [possibly], definitely: [definitely] });
-  const can = answered("p", "yes", "no");
-  const always = answered("q", "yes", "yes");
-  const cannot = answered("r", "no", "no");
-  const unknown = answered("s", "unknown", "unknown");
-  assert.deepEqual([can, always, cannot, unknown, answered("t", "unknown", "yes"), answered("u", "yes", "unknown"),
-    answered("v", "unknown", "no")].map(verdictOf), ["can happen", "always happens", "cannot happen", "unknown",
-    "always happens", "can happen", "unknown"]);
-  const said = (...predicates) => verdictText({ cycle: null, predicates });
-  assert.equal(said(can), "p can happen");
-  assert.equal(said(cannot), "r cannot happen");
-  assert.equal(said(unknown), "It is unknown whether s can happen");
-  assert.equal(said(cannot, cannot), "None of 2 predicates can happen");
-  assert.equal(said(unknown, unknown), "2 of 2 predicates are unknown");
-  assert.equal(said(unknown, cannot), "1 of 2 predicates is unknown; no other can happen");
-  assert.equal(said(can, cannot, cannot), "1 of 3 predicates can happen: p");
-  assert.equal(said(can, always, unknown), "2 of 3 predicates can happen: p, q; q always happens; 1 is unknown");
-  assert.equal(said(can, can, can, can, unknown, unknown),
-    "4 of 6 predicates can happen: p, p, p and 1 more; 2 are unknown");
-  assert.equal(verdictText({ cycle: [], predicates: [] }), "Refused: a causal cycle");
 });
 
 test("a refused cycle goes from each receipt to its send, and back along that process", needsProgram, () => {

@@ -1,6 +1,6 @@
 -- The data of a page holds no `<`.
 use Rattle.std.proofs.Common.{◌≡◌, ℕ, ◌/◌, ◌%◌, Bool, true, false, List, [], ◌∷◌, ◌++◌, refl, ap, ◌∙◌, arith}
-use Rattle.std.specs.Prelude.{◌==◌, ◌&&◌, ◌||◌, not, nat_le, if◌then◌else◌, codes, decimal, flat_map, ℤ}
+use Rattle.std.specs.Prelude.{◌==◌, ◌&&◌, ◌||◌, not, nat_le, if◌then◌else◌, codes, decimal, flat_map, ℤ, Option, Some, None}
 use Rattle.std.specs.List.{AllByRecursion}
 use Rattle.std.specs.Fmt.{signed_decimal}
 use Rattle.std.proofs.lemmas.Bool.Decides.{nat_tests}
@@ -12,8 +12,10 @@ use Rattle.def_format.specs.Names.{ProcessNames}
 use Rattle.def_format.specs.Reports.{Answer, Possibly, Definitely, NamedPlace}
 use Rattle.out_page.specs.AnswerData.{Answered, Cyclic, Outcome, answer_text, definitely_text, named_place_text, outcome_text, possibly_text, process_number, step_text, unknown_text}
 use Rattle.out_page.specs.EventData.{event_text, events_text, kind_text, message_text, place_text, process_text, setting_text, value_text, values_text}
-use Rattle.out_page.specs.JsonTexts.{escaped_byte, hex_digit, is_escaped, lacks_less, listed, quoted}
-use Rattle.out_page.specs.Pages.{data_text, limits_text, report_text, run_text, session_text, sources_text, truth_text}
+use Rattle.out_page.specs.JsonTexts.{escaped_byte, hex_digit, lacks_less, listed, quoted}
+use Rattle.out_page.specs.Pages.{data_text, limits_text, refusal_data, report_text, run_text, session_text, sources_text, truth_text}
+use Rattle.out_page.specs.ExtraData as extra
+use Rattle.out_page.specs.ExtraData.{Extras, Wish, WishKind, extras_text, kind_word, link_text, predicate_number, wish_text}
 use Rattle.out_page.specs.SourceData.{Source, source_text}
 use Rattle.out_page.specs.PredicateData.{comparison_text, comparison_word, named_text, predicate_text, sign_text, sum_text, term_fields, term_text}
 use Rattle.out_page.proofs.Numerals.{decimal_lacks, signed_lacks}
@@ -302,17 +304,58 @@ report_lacks document outcome =
       ),
     )
 
-pub data_lacks : (document : Document) (sources : List Source) (events : Computation)
-    (messages : List (Place × Place)) (outcome : Outcome)
-    → Lacks (data_text document sources events messages outcome)
-unfolding data_text
-data_lacks document sources events messages outcome =
-    chain_lacks (limits_text document)
-    (session_text document ∷ sources_text sources ∷ run_text events messages ∷ report_text document outcome
-    ∷ codes "}\n" ∷ []) (limits_lack document) (
-      session_lacks document,
+-- ---- beside the session
+
+wish_kind_lacks : (kind : WishKind) → Lacks (kind_word kind)
+wish_kind_lacks extra.Never = refl
+wish_kind_lacks extra.Always = refl
+wish_kind_lacks extra.Sometimes = refl
+
+wish_lacks : (predicates : List NamedPredicate) (wish : Wish) → Lacks (wish_text predicates wish)
+unfolding wish_text
+wish_lacks predicates wish =
+    let number = predicate_number predicates wish.name in
+    chain_lacks (codes "[\"") (kind_word wish.kind ∷ codes "\"," ∷ decimal number ∷ codes "]" ∷ []) refl
+    (wish_kind_lacks wish.kind, (refl, (decimal_lacks number, (refl, tt))))
+
+link_lacks : (link : Option (List ℕ)) → Lacks (link_text link)
+link_lacks None = refl
+link_lacks (Some pattern) = quoted_lacks pattern
+
+extras_lack : (document : Document) (extras : Extras) → Lacks (extras_text document extras)
+unfolding extras_text
+extras_lack document extras =
+    chain_lacks (codes ",\n\"wishes\":[")
+    (listed (wish_text document.predicates) extras.wishes ∷ codes "],\n\"notes\":[" ∷ listed quoted extras.notes
+    ∷ codes "],\n\"link\":" ∷ link_text extras.link ∷ []) refl (
+      listed_lacks (wish_text document.predicates) (wish_lacks document.predicates) extras.wishes,
       (
-        sources_lack sources,
-        (run_lacks events messages, (report_lacks document outcome, (refl, tt))),
+        refl,
+        (listed_lacks quoted quoted_lacks extras.notes, (refl, (link_lacks extras.link, tt))),
       ),
     )
+
+pub data_lacks : (document : Document) (extras : Extras) (sources : List Source) (events : Computation)
+    (messages : List (Place × Place)) (outcome : Outcome)
+    → Lacks (data_text document extras sources events messages outcome)
+unfolding data_text
+data_lacks document extras sources events messages outcome =
+    chain_lacks (limits_text document)
+    (extras_text document extras ∷ session_text document ∷ sources_text sources ∷ run_text events messages
+    ∷ report_text document outcome ∷ codes "}\n" ∷ []) (limits_lack document) (
+      extras_lack document extras,
+      (
+        session_lacks document,
+        (
+          sources_lack sources,
+          (run_lacks events messages, (report_lacks document outcome, (refl, tt))),
+        ),
+      ),
+    )
+
+pub refusal_lacks : (report explanation : List ℕ) → Lacks (refusal_data report explanation)
+unfolding refusal_data
+refusal_lacks report explanation =
+    chain_lacks (codes "{\"format\":1,\"refusal\":[")
+    (quoted report ∷ codes "," ∷ quoted explanation ∷ codes "]}\n" ∷ []) refl
+    (quoted_lacks report, (refl, (quoted_lacks explanation, (refl, tt))))

@@ -1,6 +1,6 @@
 -- Things that are written one after another, with a comma between each two.
 use Rattle.std.proofs.Common.{◌≡◌, ℕ, zero, suc, ◌+◌, ◌<◌, List, [], ◌∷◌, ◌++◌, get_or, length, map, take, refl, sym, ap, ◌∙◌, add-one, append-nil, append_assoc, arith}
-use Rattle.std.specs.Prelude.{Option, Some, None, codes, flat_map, slice_get}
+use Rattle.std.specs.Prelude.{Some, flat_map, slice_get}
 use Rattle.std.proofs.Math.Dec.{eqb-suc-zero}
 use Rattle.std.proofs.lemmas.List.{flat_map_more, take_more}
 use Rattle.std.proofs.lemmas.List.Folds.{flat_map-map}

@@ -1,5 +1,5 @@
 -- What rows, traces and messages are seen as, one at a time.
-use Rattle.std.specs.Prelude.{ℕ, ℤ, List, Vec}
+use Rattle.std.specs.Prelude.{ℤ, List, Vec}
 use Rattle.std.specs.declared.alloc.Global.{Global}
 use Rattle.pd_match.specs.Views.{place_view}
 use Rattle.pd_match.specs.declared.place.Place.{Place}

@@ -3,5 +3,6 @@ pub mod PredicateData
 pub mod EventData
 pub mod AnswerData
 pub mod SourceData
+pub mod ExtraData
 pub mod Views
 pub mod Pages

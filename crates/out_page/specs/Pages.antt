@@ -3,21 +3,26 @@
 use Rattle.std.specs.Prelude.{ℕ, Bool, true, false, List, ◌++◌, codes, decimal}
 use Rattle.def_model.specs.Events.{Computation, Place}
 use Rattle.def_format.specs.Documents.{Document}
-use Rattle.out_page.specs.JsonTexts.{listed}
+use Rattle.out_page.specs.JsonTexts.{listed, quoted}
 use Rattle.out_page.specs.PredicateData.{named_text}
 use Rattle.out_page.specs.EventData.{process_text, values_text, events_text, message_text}
 use Rattle.out_page.specs.AnswerData.{Outcome, outcome_text}
+use Rattle.out_page.specs.ExtraData.{Extras, extras_text}
 use Rattle.out_page.specs.SourceData.{Source, source_text}
 use Rattle.out_page.specs.declared.text_before.TheConstants.{BEFORE}
 use Rattle.out_page.specs.declared.text_diagram.TheConstants.{DIAGRAM}
+use Rattle.out_page.specs.declared.text_labels.TheConstants.{LABELS}
 use Rattle.out_page.specs.declared.text_lanes.TheConstants.{LANES}
 use Rattle.out_page.specs.declared.text_main.TheConstants.{MAIN}
 use Rattle.out_page.specs.declared.text_matter.TheConstants.{MATTER}
+use Rattle.out_page.specs.declared.text_notes.TheConstants.{NOTES}
 use Rattle.out_page.specs.declared.text_panel.TheConstants.{PANEL}
 use Rattle.out_page.specs.declared.text_picture.TheConstants.{PICTURE}
 use Rattle.out_page.specs.declared.text_pointer.TheConstants.{POINTER}
 use Rattle.out_page.specs.declared.text_predicate.TheConstants.{PREDICATE}
+use Rattle.out_page.specs.declared.text_refusal.TheConstants.{REFUSAL}
 use Rattle.out_page.specs.declared.text_run.TheConstants.{RUN}
+use Rattle.out_page.specs.declared.text_verdict.TheConstants.{VERDICT}
 
 abbrev pub truth_text : Bool → List ℕ
 truth_text true = codes "true"
@@ -51,13 +56,19 @@ report_text document outcome =
     codes ",\n\"predicates\":[" ++ listed named_text document.predicates ++ codes "],\n"
     ++ outcome_text document.names outcome
 
--- What stands in the page for a document, the files of its processes, their events, the messages, each as its send and
--- its receipt, and what is shown of the report: one object of JSON.
-unfoldable pub data_text : Document → List Source → Computation → List (Place × Place) → Outcome → List ℕ
-data_text document sources events messages outcome =
-    limits_text document ++ session_text document ++ sources_text sources ++ run_text events messages
+-- What stands in the page for a document, what it has beside the session, the files of its processes, their events, the
+-- messages, each as its send and its receipt, and what is shown of the report: one object of JSON.
+unfoldable pub data_text : Document → Extras → List Source → Computation → List (Place × Place) → Outcome → List ℕ
+data_text document extras sources events messages outcome =
+    limits_text document ++ extras_text document extras ++ session_text document ++ sources_text sources
+    ++ run_text events messages
     ++ report_text document outcome
     ++ codes "}\n"
+
+-- What stands in the page of a refusal: the text of the report, and an explanation.
+unfoldable pub refusal_data : (report explanation : List ℕ) → List ℕ
+refusal_data report explanation =
+    codes "{\"format\":1,\"refusal\":[" ++ quoted report ++ codes "," ++ quoted explanation ++ codes "]}\n"
 
 -- the page's text before its data
 unfoldable pub text_before : List ℕ
@@ -66,6 +77,12 @@ text_before = BEFORE.now
 -- the page's scripts, and what stands around them
 unfoldable pub text_run : List ℕ
 text_run = RUN.now
+
+unfoldable pub text_verdict : List ℕ
+text_verdict = VERDICT.now
+
+unfoldable pub text_notes : List ℕ
+text_notes = NOTES.now
 
 unfoldable pub text_predicate : List ℕ
 text_predicate = PREDICATE.now
@@ -76,6 +93,9 @@ text_matter = MATTER.now
 unfoldable pub text_lanes : List ℕ
 text_lanes = LANES.now
 
+unfoldable pub text_labels : List ℕ
+text_labels = LABELS.now
+
 unfoldable pub text_diagram : List ℕ
 text_diagram = DIAGRAM.now
 
@@ -84,6 +104,9 @@ text_picture = PICTURE.now
 
 unfoldable pub text_panel : List ℕ
 text_panel = PANEL.now
+
+unfoldable pub text_refusal : List ℕ
+text_refusal = REFUSAL.now
 
 unfoldable pub text_pointer : List ℕ
 text_pointer = POINTER.now
@@ -94,9 +117,13 @@ text_main = MAIN.now
 -- the page's text after its data
 unfoldable pub text_after : List ℕ
 text_after =
-    text_run ++ text_predicate ++ text_matter ++ text_lanes ++ text_diagram ++ text_picture ++ text_panel
-    ++ text_pointer ++ text_main
+    text_run ++ text_verdict ++ text_notes ++ text_predicate ++ text_matter ++ text_lanes ++ text_labels ++ text_diagram
+    ++ text_picture ++ text_panel ++ text_refusal ++ text_pointer ++ text_main
 
-unfoldable pub page_text : Document → List Source → Computation → List (Place × Place) → Outcome → List ℕ
-page_text document sources events messages outcome =
-    text_before ++ data_text document sources events messages outcome ++ text_after
+unfoldable pub page_text : Document → Extras → List Source → Computation → List (Place × Place) → Outcome → List ℕ
+page_text document extras sources events messages outcome =
+    text_before ++ data_text document extras sources events messages outcome ++ text_after
+
+-- the page of a refusal
+unfoldable pub refusal_page : (report explanation : List ℕ) → List ℕ
+refusal_page report explanation = text_before ++ refusal_data report explanation ++ text_after

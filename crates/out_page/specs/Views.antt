@@ -1,9 +1,15 @@
 -- What a page's parts stand for.
-use Rattle.std.specs.Prelude.{List, map}
+use Rattle.std.specs.Prelude.{ℕ, List, map, option_map, string_bytes, Option}
+use Rattle.std.specs.Borrow.{Bor}
 use Rattle.out_page.specs.AnswerData as shown
+use Rattle.out_page.specs.ExtraData as extra
 use Rattle.out_page.specs.SourceData as recorded
 use Rattle.out_page.specs.declared.content.Outcome.{Outcome}
 use Rattle.out_page.specs.declared.content.Outcome.TheVariants.{Answers, Cycle}
+use Rattle.out_page.specs.declared.extras.Extras.{Extras}
+use Rattle.out_page.specs.declared.extras.Wish.{Wish}
+use Rattle.out_page.specs.declared.extras.WishKind.{WishKind}
+use Rattle.out_page.specs.declared.extras.WishKind.TheVariants as kinds
 use Rattle.out_page.specs.declared.source.Source.{Source}
 use Rattle.pd_report.specs.Views.{answer_view, named_places_view}
 
@@ -16,3 +22,21 @@ source_view source = record { name = source.name.now; lines = source.lines.items
 
 abbrev pub sources_view : List Source → List recorded.Source
 sources_view sources = map source_view sources
+
+abbrev pub wish_kind_view : WishKind → extra.WishKind
+wish_kind_view kinds.Never = extra.Never
+wish_kind_view kinds.Always = extra.Always
+wish_kind_view kinds.Sometimes = extra.Sometimes
+
+abbrev pub wish_view : Wish → extra.Wish
+wish_view wish = record { kind = wish_kind_view wish.kind; name = wish.name.now }
+
+abbrev pub link_view : Option (Bor (List ℕ)) → Option (List ℕ)
+link_view link = option_map (λ (pattern : Bor (List ℕ)). pattern.now) link
+
+abbrev pub extras_view : Extras → extra.Extras
+extras_view extras = record {
+  wishes = map wish_view extras.wishes.items;
+  notes = map string_bytes extras.notes.items;
+  link = link_view extras.link;
+}

@@ -1,5 +1,5 @@
 //! What a page shows.
-use super::Source;
+use super::{Extras, Source};
 use pd_match::Place;
 use pd_report::Answer;
 use pd_spec::Spec;
@@ -16,9 +16,11 @@ pub enum Outcome<'a> {
 
 /// What a page shows: a session and its report.
 #[derive(Clone, Copy)]
-pub struct Content<'a, 'b> {
+pub struct Content<'a, 'b, 'c> {
     /// The session's document.
     pub spec: &'a Spec,
+    /// What the page has beside the session.
+    pub extras: &'a Extras<'c>,
     /// Where the events of its processes were recorded, in their order.
     pub sources: &'a [Source<'b>],
     /// The traces of its processes, in their order.

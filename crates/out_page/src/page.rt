@@ -1,7 +1,7 @@
 //! A page's text, also written.
 ghost use Rattle.pd_match.specs.Views.{pairs_view};
-ghost use Rattle.out_page.specs.Pages.{page_text, text_after, text_before, text_diagram, text_lanes, text_main, text_matter, text_panel, text_picture, text_pointer, text_predicate, text_run};
-ghost use Rattle.out_page.specs.Views.{outcome_view, sources_view};
+ghost use Rattle.out_page.specs.Pages.{page_text, text_after, text_before, text_diagram, text_labels, text_lanes, text_main, text_matter, text_notes, text_panel, text_picture, text_pointer, text_predicate, text_refusal, text_run, text_verdict};
+ghost use Rattle.out_page.specs.Views.{extras_view, outcome_view, sources_view};
 ghost use Rattle.pd_spec.specs.Views.{document_view};
 ghost use Rattle.read_traces.specs.Views.{computation_view};
 ghost use Rattle.std.specs.Io.KnownBytes.{Appends, Keeps};
@@ -11,21 +11,25 @@ use super::Content;
 use super::page_data::push_data;
 use super::text_before::BEFORE;
 use super::text_diagram::DIAGRAM;
+use super::text_labels::LABELS;
 use super::text_lanes::LANES;
 use super::text_main::MAIN;
 use super::text_matter::MATTER;
+use super::text_notes::NOTES;
 use super::text_panel::PANEL;
 use super::text_picture::PICTURE;
 use super::text_pointer::POINTER;
 use super::text_predicate::PREDICATE;
+use super::text_refusal::REFUSAL;
 use super::text_run::RUN;
+use super::text_verdict::VERDICT;
 use pd_report::{WriteFault, push_bytes, write_all};
 use std::alloc::{AllocError, Global};
 use std::io::Write;
 
 /// The page's text before its data.
 #[tactic(auto, unfolding(crate::specs::Pages::text_before))]
-fn text_before() -> &'static [u8]
+pub(crate) fn text_before() -> &'static [u8]
     ensures { result.now ≡ text_before }
 {
     BEFORE
@@ -37,6 +41,22 @@ fn text_run() -> &'static [u8]
     ensures { result.now ≡ text_run }
 {
     RUN
+}
+
+/// The text with the script that says what came of the run, and of its wishes.
+#[tactic(auto, unfolding(crate::specs::Pages::text_verdict))]
+fn text_verdict() -> &'static [u8]
+    ensures { result.now ≡ text_verdict }
+{
+    VERDICT
+}
+
+/// The text with the script that reads the notes of recorders.
+#[tactic(auto, unfolding(crate::specs::Pages::text_notes))]
+fn text_notes() -> &'static [u8]
+    ensures { result.now ≡ text_notes }
+{
+    NOTES
 }
 
 /// The text with the script that reads a predicate that is typed.
@@ -63,6 +83,14 @@ fn text_lanes() -> &'static [u8]
     LANES
 }
 
+/// The text with the script that writes notes and values on the drawing.
+#[tactic(auto, unfolding(crate::specs::Pages::text_labels))]
+fn text_labels() -> &'static [u8]
+    ensures { result.now ≡ text_labels }
+{
+    LABELS
+}
+
 /// The text with the script that draws the run.
 #[tactic(auto, unfolding(crate::specs::Pages::text_diagram))]
 fn text_diagram() -> &'static [u8]
@@ -87,6 +115,14 @@ fn text_panel() -> &'static [u8]
     PANEL
 }
 
+/// The text with the script that shows a session that is refused.
+#[tactic(auto, unfolding(crate::specs::Pages::text_refusal))]
+fn text_refusal() -> &'static [u8]
+    ensures { result.now ≡ text_refusal }
+{
+    REFUSAL
+}
+
 /// The text with the script that follows the pointer.
 #[tactic(auto, unfolding(crate::specs::Pages::text_pointer))]
 fn text_pointer() -> &'static [u8]
@@ -105,16 +141,20 @@ fn text_main() -> &'static [u8]
 
 /// Appends the page's text after its data.
 #[tactic(auto, unfolding(crate::specs::Pages::text_after))]
-fn push_after(out: &mut Vec<u8>) -> Result<(), AllocError>
+pub(crate) fn push_after(out: &mut Vec<u8>) -> Result<(), AllocError>
     ensures { OnOk result (out.new.items ≡ out.old.items ++ text_after) }
 {
     push_bytes(out, text_run())?;
+    push_bytes(out, text_verdict())?;
+    push_bytes(out, text_notes())?;
     push_bytes(out, text_predicate())?;
     push_bytes(out, text_matter())?;
     push_bytes(out, text_lanes())?;
+    push_bytes(out, text_labels())?;
     push_bytes(out, text_diagram())?;
     push_bytes(out, text_picture())?;
     push_bytes(out, text_panel())?;
+    push_bytes(out, text_refusal())?;
     push_bytes(out, text_pointer())?;
     push_bytes(out, text_main())
 }
@@ -124,10 +164,11 @@ fn push_after(out: &mut Vec<u8>) -> Result<(), AllocError>
 /// # Errors
 /// Out of memory.
 #[tactic(auto, unfolding(crate::specs::Pages::page_text))]
-pub fn text(alloc: Global, content: &Content<'_, '_>) -> Result<Vec<u8>, AllocError>
+pub fn text(alloc: Global, content: &Content<'_, '_, '_>) -> Result<Vec<u8>, AllocError>
     ensures { IfOk result (λ text. text.items ≡ page_text (document_view content.now.spec.now)
-        (sources_view content.now.sources.now) (computation_view content.now.traces.now)
-        (pairs_view content.now.pairs.now) (outcome_view content.now.outcome)) }
+        (extras_view content.now.extras.now) (sources_view content.now.sources.now)
+        (computation_view content.now.traces.now) (pairs_view content.now.pairs.now) (outcome_view
+        content.now.outcome)) }
 {
     let mut out = Vec::new(alloc);
     push_bytes(&mut out, text_before())?;
@@ -143,19 +184,22 @@ pub fn text(alloc: Global, content: &Content<'_, '_>) -> Result<Vec<u8>, AllocEr
 /// of the text written, and not all of it.
 pub fn write<W: Write>(
     alloc: Global,
-    content: &Content<'_, '_>,
+    content: &Content<'_, '_, '_>,
     writer: &mut W,
 ) -> Result<(), WriteFault>
     ensures written { OnOk result (Appends (W.contents writer.old) (W.contents writer.new)
-        (page_text (document_view content.now.spec.now) (sources_view content.now.sources.now)
+        (page_text (document_view content.now.spec.now)
+        (extras_view content.now.extras.now) (sources_view content.now.sources.now)
         (computation_view content.now.traces.now)
         (pairs_view content.now.pairs.now) (outcome_view content.now.outcome))) }
     ensures part { result ≡ Err WriteFault.Write → (taken : ℕ)
-        × (taken < length (page_text (document_view content.now.spec.now) (sources_view content.now.sources.now)
+        × (taken < length (page_text (document_view content.now.spec.now)
+        (extras_view content.now.extras.now) (sources_view content.now.sources.now)
         (computation_view content.now.traces.now)
         (pairs_view content.now.pairs.now) (outcome_view content.now.outcome)))
         × Appends (W.contents writer.old) (W.contents writer.new)
-        (take taken (page_text (document_view content.now.spec.now) (sources_view content.now.sources.now)
+        (take taken (page_text (document_view content.now.spec.now)
+        (extras_view content.now.extras.now) (sources_view content.now.sources.now)
         (computation_view content.now.traces.now)
         (pairs_view content.now.pairs.now) (outcome_view content.now.outcome))) }
     ensures memory { result ≡ Err WriteFault.Memory → Keeps (W.contents writer.old) (W.contents writer.new) }

@@ -6,8 +6,9 @@ ghost use Rattle.out_page.specs.AnswerData.{Outcome as Shown};
 ghost use Rattle.out_page.specs.JsonTexts.{lacks_less, listed};
 ghost use Rattle.out_page.specs.Pages.{data_text, limits_text, report_text, run_text, session_text, sources_text, truth_text};
 ghost use Rattle.out_page.specs.PredicateData.{named_text};
+ghost use Rattle.out_page.specs.ExtraData.{Extras};
 ghost use Rattle.out_page.specs.SourceData.{Source as Recorded};
-ghost use Rattle.out_page.specs.Views.{outcome_view, sources_view};
+ghost use Rattle.out_page.specs.Views.{extras_view, outcome_view, sources_view};
 ghost use Rattle.pd_spec.specs.Named.{named_view};
 ghost use Rattle.pd_spec.specs.Views.{document_view};
 ghost use Rattle.read_traces.specs.Views.{computation_view};
@@ -15,6 +16,7 @@ ghost use Rattle.std.specs.Prelude.{◌≡◌, ◌++◌, List, map, IfOk, OnOk, 
 
 use super::answer_data::push_outcome;
 use super::event_data::{push_messages, push_processes, push_rows, push_traces};
+use super::extra_data::push_extras;
 use super::predicate_data::push_predicate;
 use super::source_data::push_sources;
 use super::{Content, Outcome, Source};
@@ -113,12 +115,14 @@ fn push_report(out: &mut Vec<u8>, spec: &Spec, outcome: Outcome<'_>) -> Result<(
 }
 
 /// Appends the data of a page.
-pub(crate) fn push_data(out: &mut Vec<u8>, content: &Content<'_, '_>) -> Result<(), AllocError>
+pub(crate) fn push_data(out: &mut Vec<u8>, content: &Content<'_, '_, '_>) -> Result<(), AllocError>
     ensures { OnOk result (out.new.items ≡ out.old.items ++ data_text (document_view content.now.spec.now)
-        (sources_view content.now.sources.now) (computation_view content.now.traces.now)
-        (pairs_view content.now.pairs.now) (outcome_view content.now.outcome)) }
+        (extras_view content.now.extras.now) (sources_view content.now.sources.now)
+        (computation_view content.now.traces.now) (pairs_view content.now.pairs.now) (outcome_view
+        content.now.outcome)) }
 {
     push_limits(out, content.spec)?;
+    push_extras(out, content.spec, content.extras)?;
     push_session(out, content.spec)?;
     push_recorded(out, content.sources)?;
     push_run(out, content.traces, content.pairs)?;
@@ -131,10 +135,11 @@ pub(crate) fn push_data(out: &mut Vec<u8>, content: &Content<'_, '_>) -> Result<
 ///
 /// # Errors
 /// Out of memory.
-pub fn data(alloc: Global, content: &Content<'_, '_>) -> Result<Vec<u8>, AllocError>
+pub fn data(alloc: Global, content: &Content<'_, '_, '_>) -> Result<Vec<u8>, AllocError>
     ensures { IfOk result (λ text. text.items ≡ data_text (document_view content.now.spec.now)
-        (sources_view content.now.sources.now) (computation_view content.now.traces.now)
-        (pairs_view content.now.pairs.now) (outcome_view content.now.outcome)) }
+        (extras_view content.now.extras.now) (sources_view content.now.sources.now)
+        (computation_view content.now.traces.now) (pairs_view content.now.pairs.now) (outcome_view
+        content.now.outcome)) }
 {
     let mut out = Vec::new(alloc);
     push_data(&mut out, content)?;
@@ -144,7 +149,7 @@ pub fn data(alloc: Global, content: &Content<'_, '_>) -> Result<Vec<u8>, AllocEr
 /// The law of the data: whatever the session, the ids of its messages and its report are, no byte of it is `<`. So
 /// nothing in it can end the element that it stands in. It has no code.
 pub fn data_lacks_less()
-    ensures { (document : Document) (sources : List Recorded) (events : Computation)
+    ensures { (document : Document) (extras : Extras) (sources : List Recorded) (events : Computation)
         (messages : List (EventPlace × EventPlace)) (outcome : Shown)
-        → lacks_less (data_text document sources events messages outcome) ≡ true }
+        → lacks_less (data_text document extras sources events messages outcome) ≡ true }
 {}

@@ -6,13 +6,15 @@ pub(crate) const BEFORE: &[u8] = b"\
     <html lang=\"en\">\n\
     <head>\n\
     <meta charset=\"utf-8\">\n\
-    <meta http-equiv=\"Content-Security-Policy\" content=\"default-src 'none'; script-src 'sha256-/7ZSzQPjyvwfTvG\
-    PEKDPzJPK33RZswDK4ZR/UbWWfxM=' 'sha256-ELJWnDhlCBUfJorKQZ+GL05onk7yAn/f9SXOR3si6vE=' 'sha256-FZ+DN4R4KHAP5VP7\
-    EIRs1WDuhV1nHYxKFyFly0xbMQI=' 'sha256-NWF6JYBrxukP/TcjhZGwJhuWkq7QZEcq/QWI2Co8yFw=' 'sha256-U6JOrzbivCObTlf+n\
-    RcZSvT+w3jhGzxNfnT/BdAbgKQ=' 'sha256-HqxlbZl78GpXKd4mSN2MtpXZ7KhJK2twx3NL6UMeCWk=' 'sha256-oeNDvvxypDwI+9LsII\
-    FkdWne3kf1Vt0/IAci60CvRHU=' 'sha256-9WQV6+OqwwLDRAXIZSknHwQoftlpCDaCXd8wNVtZJIk=' 'sha256-hQWHZmjbpiu0GBCMzmK\
-    oB1kQGszIwgfExxw9TUlJiUI='; style-src 'sha256-PyBx3UNMBly6LTu1M2/QmDDTkWuHrC0SB4u8PMoSMzg='; base-uri 'none';\
-    \x20form-action 'none'\">\n\
+    <meta http-equiv=\"Content-Security-Policy\" content=\"default-src 'none'; script-src 'sha256-OJFpdG6lY/M9FHc\
+    lJK+YBcGOhumgKQOzsn+6anQDdyc=' 'sha256-7ZgQyYVjiNps+NRW/WsBZvFI1dSNLnPVzUzyObpADCk=' 'sha256-nX5RxClVAdV3Hah6\
+    mWpqEDFikvPeTY81pPgSs9cdpss=' 'sha256-ELJWnDhlCBUfJorKQZ+GL05onk7yAn/f9SXOR3si6vE=' 'sha256-FZ+DN4R4KHAP5VP7E\
+    IRs1WDuhV1nHYxKFyFly0xbMQI=' 'sha256-NWF6JYBrxukP/TcjhZGwJhuWkq7QZEcq/QWI2Co8yFw=' 'sha256-h2Uhpk4HhvSUT0LdYC\
+    Jztvj7cm9PLy9DToD8hIWjILU=' 'sha256-tsRsD/TAsqw+FffR89hgEgmqobNywQ/2MXrtcNsTbDY=' 'sha256-DFLn9WS1veO3d4TA78m\
+    gGfz4gOUs1hrmXSzppRMkrf8=' 'sha256-vgDaCfXtjDyTh3vi5+NYUBodQX2QV3Sf5TBgZzghOzI=' 'sha256-BA2S7wJ+YsjOIqbilV5j\
+    IiAsGduEOc4cu19mQnHS7pY=' 'sha256-40d7jQ26UIpYn8LM0GkOvYx1R0KpGYgWaGbBx8l1yxQ=' 'sha256-g28Pk6V7tssHQQ0ys9aUF\
+    IPfLfd5jH4TWoVOL4B9fY0='; style-src 'sha256-6Op8BnOX48b+V6panvlSypKdHvG4fY1qyhXATSiooaY='; base-uri 'none'; f\
+    orm-action 'none'\">\n\
     <meta name=\"viewport\" content=\"width=device-width, initial-scale=1\">\n\
     <meta name=\"referrer\" content=\"no-referrer\">\n\
     <meta name=\"color-scheme\" content=\"light dark\">\n\
@@ -43,6 +45,13 @@ pub(crate) const BEFORE: &[u8] = b"\
     \x20 --future-line: #c2860055;\n\
     \x20 --band: #1c212708;\n\
     \x20 --can-ground: #fbeee4;\n\
+    \x20 --note: #5c4326;\n\
+    \x20 --granted: #0a5c34;\n\
+    \x20 --granted-ground: #e2f3e9;\n\
+    \x20 --broken: #a3131b;\n\
+    \x20 --broken-ground: #fce9e9;\n\
+    \x20 --unsure: #5f4b00;\n\
+    \x20 --unsure-ground: #fbf3d3;\n\
     }\n\
     @media (prefers-color-scheme: dark) {\n\
     \x20 :root:not(.printed) {\n\
@@ -66,6 +75,13 @@ pub(crate) const BEFORE: &[u8] = b"\
     \x20   --future-line: #e6b0404d;\n\
     \x20   --band: #ffffff0a;\n\
     \x20   --can-ground: #3a2413;\n\
+    \x20   --note: #d8bf9c;\n\
+    \x20   --granted: #7fdca4;\n\
+    \x20   --granted-ground: #123021;\n\
+    \x20   --broken: #ff9d9d;\n\
+    \x20   --broken-ground: #3d1618;\n\
+    \x20   --unsure: #efd27c;\n\
+    \x20   --unsure-ground: #352c0c;\n\
     \x20 }\n\
     }\n\
     @media (forced-colors: active) {\n\
@@ -73,6 +89,7 @@ pub(crate) const BEFORE: &[u8] = b"\
     \x20   --surface: Canvas; --ink: CanvasText; --muted: CanvasText; --faint: GrayText; --lane: GrayText;\n\
     \x20   --message: LinkText; --forced: LinkText; --cut: Highlight; --cut-text: CanvasText; --select: VisitedTe\
     xt;\n\
+    \x20   --note: CanvasText; --granted: CanvasText; --broken: CanvasText; --unsure: CanvasText;\n\
     \x20 }\n\
     }\n\
     \n\
@@ -86,7 +103,10 @@ pub(crate) const BEFORE: &[u8] = b"\
     h3 { font-size: 14px; font-weight: 600; display: flex; align-items: center; justify-content: space-between; g\
     ap: 8px; }\n\
     code { font: 0.9em/1.5 var(--mono); overflow-wrap: anywhere; }\n\
-    [hidden], .of-cycle, .cycle .of-cuts { display: none !important; }\n\
+    [hidden], .of-cycle, .cycle .of-cuts, .of-refusal, .refused .of-run, :root:not(.noted) .of-notes {\n\
+    \x20 display: none !important;\n\
+    }\n\
+    .refused .of-refusal { display: block !important; }\n\
     .cycle .of-cycle { display: block !important; }\n\
     .unseen { position: absolute; width: 1px; height: 1px; overflow: hidden; clip-path: inset(50%); white-space: \
     nowrap; }\n\
@@ -108,6 +128,9 @@ pub(crate) const BEFORE: &[u8] = b"\
     \n\
     header { display: flex; align-items: center; gap: 8px 20px; padding: 12px 0; flex-wrap: wrap; }\n\
     #verdict { font-size: 16px; font-weight: 650; overflow-wrap: anywhere; }\n\
+    #verdict.granted { color: var(--granted); }\n\
+    #verdict.broken { color: var(--broken); }\n\
+    #verdict.unsure { color: var(--unsure); }\n\
     #counts { color: var(--muted); flex: 1 1 260px; }\n\
     #find { display: flex; align-items: center; gap: 4px; }\n\
     #query { width: min(340px, 60vw); }\n\
@@ -172,6 +195,18 @@ pub(crate) const BEFORE: &[u8] = b"\
     #film-text { font-variant-numeric: tabular-nums; color: var(--muted); }\n\
     #film label { color: var(--muted); }\n\
     #status { min-height: 21px; margin: 8px 2px 10px; color: var(--muted); overflow-wrap: anywhere; }\n\
+    #wrong-notes { margin: 0 2px 10px; color: var(--unsure); overflow-wrap: anywhere; }\n\
+    #wrong-notes:empty { display: none; }\n\
+    bdi.note, code { unicode-bidi: isolate; }\n\
+    bdi.note { overflow-wrap: anywhere; }\n\
+    a { color: var(--message); }\n\
+    #refusal .card { max-width: 110ch; }\n\
+    #refusal h2 { margin-top: 14px; }\n\
+    #refusal ol { margin: 8px 0; padding-left: 22px; }\n\
+    pre { margin: 12px 0; padding: 10px 12px; overflow-x: auto; background: var(--ground); border: 1px solid var(\
+    --line);\n\
+    \x20 border-radius: 6px; font: 13px/1.5 var(--mono); unicode-bidi: isolate; white-space: pre-wrap;\n\
+    \x20 overflow-wrap: anywhere; }\n\
     \n\
     .cards { display: grid; align-items: start; gap: 14px;\n\
     \x20 grid-template-columns: repeat(auto-fit, minmax(min(100%, 340px), 1fr)); }\n\
@@ -187,6 +222,7 @@ pub(crate) const BEFORE: &[u8] = b"\
     th { font-weight: 500; text-align: left; }\n\
     thead th { color: var(--muted); font-size: 12px; font-weight: 400; padding: 2px 8px 4px 0; }\n\
     td, tbody th { padding: 2px 8px 2px 0; vertical-align: top; overflow-wrap: anywhere; }\n\
+    .noted #listing-table td:nth-child(3), .noted #listing-table td:nth-child(4) { min-width: 7.5em; }\n\
     #listing-table td:nth-child(3), #listing-table td:nth-child(4) { font: 12.5px/1.6 var(--mono); }\n\
     #listing-table .out { color: var(--muted); }\n\
     #listing-table .chosen { box-shadow: inset 3px 0 var(--select); }\n\
@@ -210,6 +246,14 @@ pub(crate) const BEFORE: &[u8] = b"\
     .verdict.can, .verdict.always { color: var(--cut-text); background: var(--can-ground); }\n\
     .verdict.always { border-color: var(--cut-text); }\n\
     .verdict.cannot { color: var(--muted); background: var(--band); }\n\
+    .granted::before { content: \"\xe2\x9c\x93 \"; }\n\
+    .broken::before { content: \"\xe2\x9c\x97 \"; }\n\
+    .unsure::before { content: \"? \"; }\n\
+    .verdict.granted { color: var(--granted); background: var(--granted-ground); border-color: var(--granted); }\n\
+    .verdict.broken { color: var(--broken); background: var(--broken-ground); border-color: var(--broken); }\n\
+    .verdict.unsure { color: var(--unsure); background: var(--unsure-ground); border: 1px dashed var(--unsure); }\
+    \n\
+    .predicate .wish { margin-top: 2px; }\n\
     .verdict.unknown { color: var(--ink); border: 1px dashed var(--muted); }\n\
     .at { margin-top: 6px; color: var(--muted); }\n\
     .badge { padding: 0 8px; }\n\
@@ -226,16 +270,24 @@ pub(crate) const BEFORE: &[u8] = b"\
     .answers .given { display: flex; gap: 8px; justify-content: space-between; align-items: start; }\n\
     .answers button { min-height: 22px; padding: 0 9px; font-size: 0.93em; flex: none; }\n\
     .predicate .hint { margin-top: 4px; font-size: 0.93em; }\n\
-    #values .process th { font-weight: 600; padding-top: 9px; }\n\
-    #values .process .count { margin-left: 8px; font-weight: 400; }\n\
-    #values tbody:first-of-type .process th { padding-top: 2px; }\n\
-    #values tbody tr:not(.process) th { padding-left: 10px; font-weight: 400; overflow-wrap: anywhere; }\n\
-    #values tbody tr.named:not(.process) th { font-weight: 600; }\n\
-    #values .value { font-weight: 600; }\n\
-    #values .was, #values .last { font-weight: 400; color: var(--muted); font-size: 12.5px; }\n\
-    #values .by { color: var(--muted); white-space: nowrap; }\n\
-    #values .changed > * { background: color-mix(in srgb, var(--cut) 13%, transparent); }\n\
-    #values .changed th { box-shadow: inset 3px 0 var(--cut); }\n\
+    #values { display: grid; gap: 10px 8px; grid-template-columns: repeat(auto-fill, minmax(104px, 1fr));\n\
+    \x20 font-variant-numeric: tabular-nums; }\n\
+    #values .process { grid-column: 1 / -1; min-width: 0; }\n\
+    #values .of-one { grid-column: span 1; }\n\
+    #values .of-two { grid-column: span 2; }\n\
+    #values h3 { font-size: 13px; flex-wrap: wrap; gap: 0 8px; justify-content: flex-start; margin-bottom: 3px; }\
+    \n\
+    #values h3 span { overflow-wrap: anywhere; }\n\
+    #values .count { font-weight: 400; flex: none; }\n\
+    .cells { display: grid; grid-template-columns: repeat(auto-fill, minmax(104px, 1fr)); gap: 4px; }\n\
+    .cell { min-width: 0; padding: 2px 7px 3px; border: 1px solid var(--line); border-radius: 6px; }\n\
+    .cell dt { font-size: 12px; line-height: 1.3; overflow-wrap: anywhere; }\n\
+    .cell.named dt { font-weight: 600; color: var(--ink); }\n\
+    .cell dd { display: flex; flex-wrap: wrap; justify-content: space-between; gap: 0 8px; line-height: 1.35; }\n\
+    .value { font-weight: 600; }\n\
+    .was, .last { font-weight: 400; color: var(--muted); font-size: 12px; }\n\
+    .by { color: var(--muted); font-size: 12px; white-space: nowrap; }\n\
+    .cell.changed { background: color-mix(in srgb, var(--cut) 13%, transparent); border-color: var(--cut); }\n\
     \n\
     footer { color: var(--muted); font-size: 12.5px; padding: 20px 0 26px; display: grid; gap: 6px; max-width: 11\
     0ch; }\n\
@@ -276,7 +328,7 @@ pub(crate) const BEFORE: &[u8] = b"\
     \x20 body { padding: 0 10px; }\n\
     \x20 header { gap: 8px 12px; }\n\
     \x20 #help-button { margin-left: auto; }\n\
-    \x20 #counts { flex: 1 0 100%; order: 1; }\n\
+    \x20 #verdict, #counts { flex: 1 0 100%; order: 1; }\n\
     \x20 #find { order: 2; flex: 1 0 100%; }\n\
     \x20 #query { flex: 1; width: auto; min-width: 0; }\n\
     \x20 #matches { max-width: 40vw; }\n\
@@ -292,13 +344,16 @@ pub(crate) const BEFORE: &[u8] = b"\
     \x20 #level, #hidden { order: 3; flex-basis: 100%; }\n\
     \x20 .of-zoom, .of-view { order: 2; }\n\
     \x20 .of-view { flex-wrap: wrap; }\n\
+    \x20 .noted #listing-table :is(th, td):nth-child(2), .noted #listing-table :is(th, td):nth-child(6) { display\
+    : none; }\n\
+    \x20 .noted #listing-table td:nth-child(3), .noted #listing-table td:nth-child(4) { min-width: 5.5em; }\n\
     }\n\
     @media print {\n\
     \x20 @page { size: landscape; margin: 12mm; }\n\
     \x20 html { background: #fff; font-size: 11px; }\n\
     \x20 body { padding: 0; max-width: none; }\n\
-    \x20 header form, #help-button, .bar .group, .controls, #film, .card, #overview, #status, button:not(.plain),\
-    \x20.pager {\n\
+    \x20 header form, #help-button, .bar .group, .controls, #film, #run .card, #overview, #status, button:not(.pl\
+    ain), .pager {\n\
     \x20   display: none !important;\n\
     \x20 }\n\
     \x20 main { display: block; }\n\
@@ -309,8 +364,9 @@ pub(crate) const BEFORE: &[u8] = b"\
     sible; }\n\
     \x20 #panel > section { border: 0; padding: 0; }\n\
     \x20 .predicate { margin-left: 0; }\n\
-    \x20 .predicate, #values tbody, footer p { break-inside: avoid; }\n\
-    \x20 h2, #values thead { break-after: avoid; }\n\
+    \x20 .predicate, #values .process, footer p { break-inside: avoid; }\n\
+    \x20 h2 { break-after: avoid; }\n\
+    \x20 .verdict { print-color-adjust: exact; }\n\
     \x20 footer { font-size: 10px; padding: 12px 0 0; }\n\
     }\n\
     </style>\n\
@@ -320,20 +376,36 @@ pub(crate) const BEFORE: &[u8] = b"\
     \x20 <h1>monitor <span>explore</span></h1>\n\
     \x20 <p id=\"verdict\"></p>\n\
     \x20 <p id=\"counts\"></p>\n\
-    \x20 <form id=\"find\" role=\"search\" autocomplete=\"off\">\n\
+    \x20 <form id=\"find\" class=\"of-run\" role=\"search\" autocomplete=\"off\">\n\
     \x20   <label for=\"query\" class=\"unseen\">Find an event</label>\n\
-    \x20   <input id=\"query\" type=\"search\" placeholder=\"Find: process, variable, message, x = 3\" spellcheck\
-    =\"false\">\n\
+    \x20   <input id=\"query\" type=\"search\" placeholder=\"Find: process, message, note, x = 3\" spellcheck=\"f\
+    alse\">\n\
     \x20   <button type=\"button\" id=\"previous\" title=\"previous (p)\" aria-label=\"Previous match\">\xe2\x80\xb9\
     </button>\n\
     \x20   <button type=\"submit\" id=\"next\" title=\"next (n)\" aria-label=\"Next match\">\xe2\x80\xba</button>\
     \n\
     \x20   <output id=\"matches\" for=\"query\"></output>\n\
     \x20 </form>\n\
-    \x20 <button type=\"button\" id=\"help-button\" aria-label=\"Keys and signs\" title=\"keys and signs (?)\">?<\
-    /button>\n\
+    \x20 <button type=\"button\" id=\"help-button\" class=\"of-run\" aria-label=\"Keys and signs\" title=\"keys a\
+    nd signs (?)\">?</button>\n\
     </header>\n\
-    <main>\n\
+    <main id=\"refusal\" class=\"of-refusal\">\n\
+    \x20 <section class=\"card\" aria-labelledby=\"refusal-title\">\n\
+    \x20   <h2 id=\"refusal-title\">The report</h2>\n\
+    \x20   <p><code id=\"report\"></code></p>\n\
+    \x20   <pre id=\"explanation\"></pre>\n\
+    \x20   <h2>What to do next</h2>\n\
+    \x20   <ol>\n\
+    \x20     <li id=\"mend\"></li>\n\
+    \x20     <li>Run <code>monitor explore</code> again. <em>What to do at a refusal</em> in <code>docs/RECORDING\
+    .md</code> says of each refusal what is to be mended, and <code>docs/EXPLANATIONS.md</code> what the lines ab\
+    ove mean.</li>\n\
+    \x20   </ol>\n\
+    \x20   <p class=\"actions\"><button type=\"button\" id=\"refusal-copy\">Copy the report</button> <span id=\"r\
+    efusal-said\" class=\"hint\" role=\"status\"></span></p>\n\
+    \x20 </section>\n\
+    </main>\n\
+    <main class=\"of-run\">\n\
     \x20 <section id=\"run\" aria-label=\"The run\">\n\
     \x20   <div class=\"bar\" id=\"tools\">\n\
     \x20     <div class=\"group of-cuts\">\n\
@@ -391,6 +463,7 @@ pub(crate) const BEFORE: &[u8] = b"\
     \x20     <button type=\"button\" id=\"film-close\">Close</button>\n\
     \x20   </div>\n\
     \x20   <p id=\"status\"></p>\n\
+    \x20   <p id=\"wrong-notes\"></p>\n\
     \x20   <p id=\"live\" class=\"unseen\" role=\"status\" aria-live=\"polite\"></p>\n\
     \x20   <div class=\"cards\">\n\
     \x20     <section id=\"event\" class=\"card\" aria-labelledby=\"event-title\">\n\
@@ -407,7 +480,8 @@ pub(crate) const BEFORE: &[u8] = b"\
     \x20       </div>\n\
     \x20       <table id=\"listing-table\">\n\
     \x20         <thead><tr><th scope=\"col\">Event</th><th scope=\"col\">Line</th><th scope=\"col\">Sets</th><th\
-    \x20scope=\"col\">Message</th><th scope=\"col\" class=\"of-cuts\">In the cut</th></tr></thead>\n\
+    \x20scope=\"col\">Message</th><th scope=\"col\" class=\"of-notes\">Note</th><th scope=\"col\" class=\"of-cuts\
+    \">In the cut</th></tr></thead>\n\
     \x20         <tbody></tbody>\n\
     \x20       </table>\n\
     \x20     </section>\n\
@@ -431,19 +505,22 @@ pub(crate) const BEFORE: &[u8] = b"\
     \x20   </section>\n\
     \x20   <section aria-labelledby=\"values-title\" class=\"of-cuts\">\n\
     \x20     <h2 id=\"values-title\">Values at the cut</h2>\n\
-    \x20     <table id=\"values\">\n\
-    \x20       <thead><tr><th scope=\"col\">Variable</th><th scope=\"col\">Value</th><th scope=\"col\">Set by</th\
-    ></tr></thead>\n\
-    \x20     </table>\n\
+    \x20     <div id=\"values\"></div>\n\
     \x20   </section>\n\
     \x20 </aside>\n\
     </main>\n\
     <footer>\n\
-    \x20 <p><strong>Proved</strong> of the program that wrote this page: that it holds the session's events with \
-    their lines, messages, values and predicates, and the answers of its report or the cycle for which it is refu\
-    sed, as they are; that this report is right; and that nothing of what it holds is read as mark-up.\n\
+    \x20 <p class=\"of-run\"><strong>Proved</strong> of the program that wrote this page: that it holds the sessi\
+    on's events with their lines, messages, values and predicates, and the answers of its report or the cycle for\
+    \x20which it is refused, as they are; that this report is right; and that nothing of what it holds is read as\
+    \x20mark-up.\n\
     \x20 <strong>Not proved, only tested:</strong> the script of this page, which draws, moves the cut, reads val\
-    ues and decides predicates at it, one that is typed too.</p>\n\
+    ues and notes, and decides predicates at the cut, one that is typed too. Notes are what recorders wrote besid\
+    e the streams, and order nothing.</p>\n\
+    \x20 <p class=\"of-refusal\"><strong>Proved</strong> of the program that wrote this page: that the session is\
+    \x20refused, with this report.\n\
+    \x20 <strong>Not proved, only tested:</strong> what stands below the report, and the script of this page.</p>\
+    \n\
     \x20 <p>The page asks nothing of any network.</p>\n\
     </footer>\n\
     <dialog id=\"help\" aria-labelledby=\"help-title\">\n\
@@ -478,6 +555,10 @@ pub(crate) const BEFORE: &[u8] = b"\
     \x20 <p class=\"hint\"><strong>Only what matters</strong> hides the events that set no variable which the sho\
     wn predicate names, and the messages without which those that do have the same order; small dots are ends of \
     messages that stay, and a dashed line hides as many events as its number says.</p>\n\
+    \x20 <p class=\"hint of-notes\">A <strong>note</strong> stands below its event where there is room, and whole\
+    \x20in the list of events and beside the selected one. It is found by any part of its text or of its place. I\
+    ts time is that of its machine's clock, and orders nothing. What shows as no letter is an escape, as \\u202e.\
+    </p>\n\
     \x20 <ul class=\"signs\">\n\
     \x20   <li><span class=\"sign dot\"></span> has happened at the cut</li>\n\
     \x20   <li><span class=\"sign ring\"></span> has not happened</li>\n\
@@ -488,6 +569,10 @@ pub(crate) const BEFORE: &[u8] = b"\
     \x20   <li><span class=\"sign forced\"></span> a message that moved the cut of another process</li>\n\
     \x20   <li><span class=\"sign cut\"></span> of a refused session: the causal cycle</li>\n\
     \x20   <li><span class=\"sign flight\"></span> a message in flight: no one received it</li>\n\
+    \x20   <li><span class=\"verdict granted\">as wished</span> never: possibly no; always: definitely yes; somet\
+    imes: possibly yes</li>\n\
+    \x20   <li><span class=\"verdict broken\">not as wished</span> the other answer</li>\n\
+    \x20   <li><span class=\"verdict unsure\">unknown</span> grants no wish, and breaks none</li>\n\
     \x20 </ul>\n\
     \x20 <form method=\"dialog\"><button>Close</button></form>\n\
     </dialog>\n\

@@ -24,8 +24,8 @@ pub(crate) const DIAGRAM: &[u8] = b"\
     \x20 const style = getComputedStyle(document.documentElement);\n\
     \x20 const names = [\"surface\", \"ink\", \"muted\", \"lane\", \"faint\", \"message\", \"forced\", \"cut\", \"\
     cut-text\", \"cut-tint\",\n\
-    \x20                \"film\", \"select\", \"past\", \"future\", \"future-line\", \"band\", \"found\", \"line\"\
-    ];\n\
+    \x20                \"film\", \"note\", \"select\", \"past\", \"future\", \"future-line\", \"band\", \"found\"\
+    , \"line\"];\n\
     \x20 const palette = Object.fromEntries(names.map((name) => [name, style.getPropertyValue(\"--\" + name).trim\
     ()]));\n\
     \x20 palette.font = style.getPropertyValue(\"--font\").trim() || \"sans-serif\";\n\
@@ -190,6 +190,7 @@ pub(crate) const DIAGRAM: &[u8] = b"\
     \x20   drawDots(scene);\n\
     \x20 }\n\
     \x20 drawGaps(scene, gaps);\n\
+    \x20 drawNotes(scene);\n\
     \x20 drawFound(scene);\n\
     \x20 drawRings(scene);\n\
     \x20 if (line === null) return told;\n\
@@ -461,6 +462,8 @@ pub(crate) const DIAGRAM: &[u8] = b"\
     \x20 const numberRoom = room(Math.max(...run.counts));\n\
     \x20 const every = [1, 2, 5, 10, 20, 50].find((each) => each * view.scale >= numberRoom) ?? 100;\n\
     \x20 const stepped = state.film !== null && view.scale >= room(run.eventCount);\n\
+    \x20 const isTight = stepped && size.heights[p] < ROOMY_LANE;   // steps stand where the numbers of the lane \
+    above would\n\
     \x20 const y = laneY(size, p);\n\
     \x20 let free = -Infinity;\n\
     \x20 for (let k = countUpTo(columns, left) + 1; k < columns.length && columns[k] <= right; k++) {\n\
@@ -470,7 +473,7 @@ pub(crate) const DIAGRAM: &[u8] = b"\
     \x20   const kind = i <= state.cut[p] ? (dim ? \"dimHappened\" : \"happened\") : dim ? \"dimOpen\" : \"open\"\
     ;\n\
     \x20   (isFull(run, p, i) ? dots : ends)[kind].push([x, y]);\n\
-    \x20   if (run.only === null ? i % every === 0 : x >= free && isFull(run, p, i)) {\n\
+    \x20   if (!isTight && (run.only === null ? i % every === 0 : x >= free && isFull(run, p, i))) {\n\
     \x20     numbers.push([x, y + radius + 5, i]);\n\
     \x20     free = x + numberRoom;\n\
     \x20   }\n\
@@ -623,27 +626,6 @@ pub(crate) const DIAGRAM: &[u8] = b"\
     \x20   context.arc(x, y, grip, 0, 2 * Math.PI);\n\
     \x20   context.fill();\n\
     \x20   context.stroke();\n\
-    \x20 }\n\
-    }\n\
-    \n\
-    // Beside the cut, what the variables that the shown predicate names are worth.\n\
-    function drawValues({ context, run, state, palette, size }) {\n\
-    \x20 const predicate = run.predicates[state.shown];\n\
-    \x20 if (predicate === undefined) return;\n\
-    \x20 context.font = \"bold 12px \" + palette.font;\n\
-    \x20 context.textBaseline = \"middle\";\n\
-    \x20 for (let p = 0; p < run.size; p++) {\n\
-    \x20   const named = predicate.refs.filter(([q]) => q === p);\n\
-    \x20   const x = cutX(run, state, p);\n\
-    \x20   if (named.length === 0 || size.folded[p] || x < 0 || x > size.width) continue;\n\
-    \x20   let text = named.map(([, v]) => run.vars[p][v].name + \" = \" + valueAt(run, p, v, state.cut[p])).join\
-    (\", \");\n\
-    \x20   if (text.length > 40) text = text.slice(0, 39) + \"\xe2\x80\xa6\";\n\
-    \x20   const fits = x + 10 + context.measureText(text).width < size.width;\n\
-    \x20   context.textAlign = fits ? \"left\" : \"right\";\n\
-    \x20   const above = size.lane * (state.film === null ? 0.25 : 0.33);\n\
-    \x20   haloText(context, palette, text, fits ? x + 8 : x - 8, laneY(size, p) - above, palette[\"cut-text\"]);\
-    \n\
     \x20 }\n\
     }\n\
     \n\

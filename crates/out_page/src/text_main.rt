@@ -19,8 +19,11 @@ pub(crate) const MAIN: &[u8] = b"\
     window.addEventListener(\"error\", (event) => { byId(\"status\").textContent = \"The page failed: \" + event.\
     message; });\n\
     \n\
-    const run = readRun(JSON.parse(byId(\"data\").textContent));\n\
+    const data = JSON.parse(byId(\"data\").textContent);\n\
     byId(\"data\").remove();\n\
+    const run = readRun(data);\n\
+    run.wishes = readWishes(run, run.cycle !== null ? [] : data.wishes ?? []);\n\
+    run.notes = (data.notes ?? []).length === 0 ? null : new Notes(run, data.notes);\n\
     \n\
     const state = {\n\
     \x20 cut: run.counts.map(() => 0), before: run.counts.map(() => 0), forced: [], undo: [],\n\
@@ -358,7 +361,6 @@ pub(crate) const MAIN: &[u8] = b"\
     -------\n\
     \n\
     function playFilm(k) {\n\
-    \x20 select(null);   // what lies before and after an event isn't shaded while the film runs\n\
     \x20 openFilm(k);\n\
     \x20 if (run.eventCount > 0) play();\n\
     }\n\
@@ -390,6 +392,8 @@ pub(crate) const MAIN: &[u8] = b"\
     \n\
     function play() {\n\
     \x20 if (timer !== 0) return pause();\n\
+    \x20 if (state.selected !== null) select(null);   // what is before and after an event isn't shaded while the\
+    \x20film runs\n\
     \x20 if (state.film.step >= run.eventCount) toStep(0);\n\
     \x20 let last = performance.now();\n\
     \x20 const turn = (now) => {\n\
@@ -454,7 +458,8 @@ pub(crate) const MAIN: &[u8] = b"\
     \x20 state.hit = state.hit < 0 ? (step > 0 ? 0 : count - 1) : (state.hit + step + count) % count;\n\
     \x20 const { p, i, why } = state.hits[state.hit];\n\
     \x20 select(p, i);\n\
-    \x20 byId(\"matches\").textContent = state.hit + 1 + \" of \" + count.toLocaleString(\"en\") + \": \" + why;\n\
+    \x20 byId(\"matches\").textContent = state.hit + 1 + \" of \" + count.toLocaleString(\"en\") + \": \" + plain\
+    Text(why);\n\
     }\n\
     \n\
     // ---- keys ------------------------------------------------------------------------------------------------\
@@ -549,13 +554,23 @@ pub(crate) const MAIN: &[u8] = b"\
     // ---- the start -------------------------------------------------------------------------------------------\
     -------\n\
     \n\
-    function start() {\n\
+    function countsText() {\n\
+    \x20 return plainText(sessionName(run)) + \": \" + counted(run.size, \"process\", \"processes\") + \", \" +\n\
+    \x20   counted(run.eventCount, \"event\") + \", \" + counted(run.received, \"message\") +\n\
+    \x20   (run.inFlight > 0 ? \" and \" + run.inFlight.toLocaleString(\"en\") + \" in flight\" : \"\") +\n\
+    \x20   (run.notes === null ? \"\" : \", \" + counted(run.notes.count, \"note\"));\n\
+    }\n\
+    \n\
+    // What stands above the run, and what is made once for it.\n\
+    function makePage() {\n\
+    \x20 const came = cameOfAll(run.wishes);\n\
     \x20 byId(\"verdict\").textContent = verdictText(run);\n\
-    \x20 document.title = verdictText(run) + \" \xe2\x80\x93 monitor explore\";\n\
-    \x20 byId(\"counts\").textContent = counted(run.size, \"process\", \"processes\") + \", \" + counted(run.even\
-    tCount, \"event\") +\n\
-    \x20   \", \" + counted(run.received, \"message\") +\n\
-    \x20   (run.inFlight > 0 ? \" and \" + run.inFlight.toLocaleString(\"en\") + \" in flight\" : \"\");\n\
+    \x20 if (came !== \"\") byId(\"verdict\").className = classOf(came);\n\
+    \x20 document.title = plainText(titleText(run));\n\
+    \x20 byId(\"counts\").textContent = countsText();\n\
+    \x20 byId(\"wrong-notes\").textContent = [wrongNotesText(run), wrongLinkText(run)].filter((text) => text !== \
+    \"\").join(\" \");\n\
+    \x20 document.documentElement.classList.toggle(\"noted\", run.notes !== null);\n\
     \x20 makeLanes();\n\
     \x20 cards = makePredicates(run, actions);\n\
     \x20 rows = makeValues(run, actions);\n\
@@ -564,8 +579,7 @@ pub(crate) const MAIN: &[u8] = b"\
     , name)));\n\
     \x20 FILM_SPEEDS.forEach((speed) => byId(\"film-speed\").append(element(\"option\", { value: String(speed) },\
     \x20String(speed))));\n\
-    \x20 canvas.setAttribute(\"aria-label\", \"The run: \" + byId(\"counts\").textContent + \". \" + (run.cycle !\
-    == null\n\
+    \x20 canvas.setAttribute(\"aria-label\", \"The run: \" + countsText() + \". \" + (run.cycle !== null\n\
     \x20   ? \"An event is selected\" : \"The cut is moved\") + \" on the lanes beside; the events are listed as \
     a table below.\");\n\
     \x20 if (run.cycle !== null) {\n\
@@ -576,26 +590,35 @@ pub(crate) const MAIN: &[u8] = b"\
     \x20 }\n\
     \x20 overview.hidden = run.lastColumn < 24;\n\
     \x20 byId(\"stage\").classList.toggle(\"last\", overview.hidden);\n\
-    \x20 measure();\n\
-    \x20 const evident = run.predicates.findIndex((each) => each.possibly[0] === \"yes\");\n\
-    \x20 state.shown = Math.max(0, evident);\n\
-    \x20 if (evident >= 0) {\n\
-    \x20   state.cut = state.before = run.predicates[evident].possibly[1].slice();\n\
-    \x20   say(run.predicates[evident].name + \" is true at this cut. \" + HOW_TO_MOVE);\n\
-    \x20 } else if (run.cycle === null) say(\"The cut before all events. \" + HOW_TO_MOVE);\n\
-    \x20 else {\n\
+    }\n\
+    \n\
+    // Opens at the first evidence, or at what the address says.\n\
+    function openFirst() {\n\
+    \x20 const evidence = run.cycle === null ? firstEvidence(run) : null;\n\
+    \x20 state.shown = evidence?.k ?? 0;\n\
+    \x20 if (run.cycle !== null) {\n\
     \x20   state.cut = state.before = run.counts.slice();\n\
     \x20   say(\"The session is refused: its events make a causal cycle, which is marked.\");\n\
+    \x20 } else if (evidence === null) say(\"The cut before all events. \" + HOW_TO_MOVE);\n\
+    \x20 else if (evidence.is === \"cut\") {\n\
+    \x20   state.cut = state.before = run.predicates[evidence.k].possibly[1].slice();\n\
+    \x20   say(run.predicates[evidence.k].name + \" is true at this cut. \" + HOW_TO_MOVE);\n\
     \x20 }\n\
     \x20 setView(0, firstScale());\n\
     \x20 state.lane = Math.max(0, state.cut.findIndex((count) => count > 0));\n\
     \x20 list(state.lane, state.cut[state.lane]);\n\
+    \x20 if (evidence?.is === \"film\" && !/[#&](cut|film)=/.test(location.hash)) openFilm(evidence.k);\n\
     \x20 const given = readAddress();\n\
     \x20 if (given.view === null && given.selected !== null) reveal(run.columns[given.selected.p][given.selected.\
     i]);\n\
     \x20 else if (given.view === null) revealCut();\n\
-    \x20 watchPointer();\n\
-    \x20 const onClick = (id, act) => byId(id).addEventListener(\"click\", act);\n\
+    }\n\
+    \n\
+    function onClick(id, act) {\n\
+    \x20 byId(id).addEventListener(\"click\", act);\n\
+    }\n\
+    \n\
+    function watchTools() {\n\
     \x20 const cutAt = (cut, text) => { pause(); setCut(cut, { text }); revealCut(); };\n\
     \x20 onClick(\"to-empty\", () => cutAt(run.counts.map(() => 0), \"Nothing has happened.\"));\n\
     \x20 onClick(\"to-full\", () => cutAt(run.counts.slice(), \"All has happened.\"));\n\
@@ -610,12 +633,22 @@ pub(crate) const MAIN: &[u8] = b"\
     \x20 onClick(\"named-first\", namedFirst);\n\
     \x20 onClick(\"reset-lanes\", resetLanes);\n\
     \x20 onClick(\"copy-text\", copyText);\n\
+    \x20 onClick(\"help-button\", () => byId(\"help\").showModal());\n\
+    }\n\
+    \n\
+    function watchFilm() {\n\
     \x20 onClick(\"film-play\", play);\n\
     \x20 onClick(\"film-back\", () => { pause(); toStep(state.film.step - 1); });\n\
     \x20 onClick(\"film-on\", () => { pause(); toStep(state.film.step + 1); });\n\
     \x20 onClick(\"film-close\", closeFilm);\n\
-    \x20 onClick(\"help-button\", () => byId(\"help\").showModal());\n\
-    \x20 onClick(\"previous\", () => toHit(-1));\n\
+    \x20 byId(\"film-step\").addEventListener(\"input\", (event) => {\n\
+    \x20   const step = Number(event.target.value);\n\
+    \x20   pause();\n\
+    \x20   toStep(step);\n\
+    \x20 });\n\
+    }\n\
+    \n\
+    function watchListing() {\n\
     \x20 onClick(\"listing-earlier\", () => { state.listing.first -= LISTING_ROWS; updateListing(run, state, acti\
     ons); });\n\
     \x20 onClick(\"listing-later\", () => { state.listing.first += LISTING_ROWS; updateListing(run, state, action\
@@ -625,11 +658,10 @@ pub(crate) const MAIN: &[u8] = b"\
     \x20   state.listing = { p, first: Math.max(1, state.cut[p] - LISTING_ROWS / 2) };\n\
     \x20   updateListing(run, state, actions);\n\
     \x20 });\n\
-    \x20 byId(\"film-step\").addEventListener(\"input\", (event) => {\n\
-    \x20   const step = Number(event.target.value);\n\
-    \x20   pause();\n\
-    \x20   toStep(step);\n\
-    \x20 });\n\
+    }\n\
+    \n\
+    function watchFields() {\n\
+    \x20 onClick(\"previous\", () => toHit(-1));\n\
     \x20 byId(\"find\").addEventListener(\"submit\", (event) => { event.preventDefault(); toHit(1); });\n\
     \x20 byId(\"query\").addEventListener(\"keydown\", (event) => {\n\
     \x20   if (event.key === \"Enter\" && event.shiftKey) { event.preventDefault(); toHit(-1); }\n\
@@ -643,6 +675,9 @@ pub(crate) const MAIN: &[u8] = b"\
     \x20   updateTyped(run, state);\n\
     \x20 });\n\
     \x20 byId(\"type\").addEventListener(\"submit\", (event) => event.preventDefault());\n\
+    }\n\
+    \n\
+    function watchWindow() {\n\
     \x20 document.addEventListener(\"keydown\", pageKey);\n\
     \x20 window.addEventListener(\"hashchange\", () => { if (location.hash !== written) readAddress(); });\n\
     \x20 new ResizeObserver(() => {\n\
@@ -650,8 +685,8 @@ pub(crate) const MAIN: &[u8] = b"\
     \x20 }).observe(byId(\"picture\"));\n\
     \x20 window.addEventListener(\"resize\", measure);\n\
     \x20 const recolour = () => { palette = readPalette(); measure(); };\n\
-    \x20 for (const wish of [\"(prefers-color-scheme: dark)\", \"(forced-colors: active)\"]) {\n\
-    \x20   matchMedia(wish).addEventListener(\"change\", recolour);\n\
+    \x20 for (const query of [\"(prefers-color-scheme: dark)\", \"(forced-colors: active)\"]) {\n\
+    \x20   matchMedia(query).addEventListener(\"change\", recolour);\n\
     \x20 }\n\
     \x20 let onScreen = null;\n\
     \x20 const printed = (on) => {\n\
@@ -664,10 +699,23 @@ pub(crate) const MAIN: &[u8] = b"\
     \x20 };\n\
     \x20 window.addEventListener(\"beforeprint\", () => printed(true));\n\
     \x20 window.addEventListener(\"afterprint\", () => printed(false));\n\
-    \x20 document.documentElement.classList.add(\"ready\");\n\
     }\n\
     \n\
-    start();\n\
+    function start() {\n\
+    \x20 makePage();\n\
+    \x20 measure();\n\
+    \x20 openFirst();\n\
+    \x20 watchPointer();\n\
+    \x20 watchTools();\n\
+    \x20 watchFilm();\n\
+    \x20 watchListing();\n\
+    \x20 watchFields();\n\
+    \x20 watchWindow();\n\
+    }\n\
+    \n\
+    if (run.refusal === null) start();\n\
+    else showRefusal(run);\n\
+    document.documentElement.classList.add(\"ready\");\n\
     </script>\n\
     </body>\n\
     </html>\n\

@@ -50,12 +50,25 @@ pub(crate) const PANEL: &[u8] = b"\
     // ---- predicates ------------------------------------------------------------------------------------------\
     -------\n\
     \n\
-    // A card leads with what is so of the whole run, and says after its evidence what is so at the cut shown.\n\
+    // The class of what came of wishes; its sign is the style's.\n\
+    function classOf(came) {\n\
+    \x20 return { [AS_WISHED]: \"granted\", [NOT_AS_WISHED]: \"broken\", unknown: \"unsure\" }[came];\n\
+    }\n\
+    \n\
+    // What a card leads with: what came of its wishes, and without one what is so of the whole run.\n\
+    function verdictNode(predicate, wishes) {\n\
+    \x20 const came = cameOfAll(wishes);\n\
+    \x20 if (came !== \"\") return element(\"span\", { class: \"verdict \" + classOf(came) }, came);\n\
+    \x20 const verdict = verdictOf(predicate);\n\
+    \x20 return element(\"span\", { class: \"verdict \" + verdict.split(\" \")[0] }, verdict);\n\
+    }\n\
+    \n\
+    // A card says after its verdict and its evidence what is so at the cut shown.\n\
     function makePredicates(run, actions) {\n\
     \x20 return run.predicates.map((predicate, k) => {\n\
     \x20   const badge = element(\"span\", { class: \"badge\" });\n\
     \x20   const why = element(\"ul\", { class: \"why\" });\n\
-    \x20   const verdict = verdictOf(predicate);\n\
+    \x20   const wishes = run.wishes.filter((wish) => wish.k === k);\n\
     \x20   const answers = element(\"dl\", { class: \"answers\" },\n\
     \x20     element(\"dt\", {}, \"Possibly\"), possiblyOf(run, predicate, k, actions),\n\
     \x20     element(\"dt\", {}, \"Definitely\"), definitelyOf(run, predicate, k, actions));\n\
@@ -64,8 +77,8 @@ pub(crate) const PANEL: &[u8] = b"\
     \x20                                    click: () => actions.show(k) }, predicate.name);\n\
     \x20   const open = predicate.possibly[0] === \"unknown\" || predicate.definitely[0] === \"unknown\";\n\
     \x20   const card = element(\"article\", { class: \"predicate\" },\n\
-    \x20     element(\"h3\", {}, name, element(\"span\", { class: \"verdict \" + verdict.split(\" \")[0] }, verdi\
-    ct)),\n\
+    \x20     element(\"h3\", {}, name, verdictNode(predicate, wishes)),\n\
+    \x20     ...wishes.map((wish) => element(\"p\", { class: \"wish\" }, wishText(predicate, wish))),\n\
     \x20     element(\"code\", {}, predicate.text), answers,\n\
     \x20     open ? element(\"p\", { class: \"hint\" }, whatToDo(run)) : null,\n\
     \x20     element(\"p\", { class: \"at\" }, \"At the cut shown: \", badge), why);\n\
@@ -168,16 +181,23 @@ pub(crate) const PANEL: &[u8] = b"\
     \x20 });\n\
     }\n\
     \n\
-    // The run, the cut and the values at it as lines of text, to be pasted into a report of a bug.\n\
+    // The run, the cut and the values at it as lines of text, to be pasted into a report of a bug; of each proce\
+    ss also the\n\
+    // note of its last event in the cut.\n\
     function asText(run, cut) {\n\
+    \x20 const noted = (p) => (cut[p] === 0 ? \"\" : noteWords(run, p, cut[p]));\n\
     \x20 const values = run.names.map((name, p) => name + \" after \" + cut[p] + \" of \" + counted(run.counts[p]\
     , \"event\") +\n\
     \x20   run.vars[p].map(({ name: variable }, v) => \", \" + variable + \" = \" + valueAt(run, p, v, cut[p])).j\
-    oin(\"\"));\n\
-    \x20 const answers = run.predicates.map((each) => each.name + \" \" + verdictOf(each) + \", and is \" +\n\
-    \x20   isTrue(each.node, reader(run, cut)) + \" at this cut: \" + each.text);\n\
-    \x20 return [verdictText(run) + \".\", ...answers, \"The cut \" + cut.join(\",\") + \":\", ...values, \"\"].j\
-    oin(\"\\n\");\n\
+    oin(\"\") +\n\
+    \x20   (noted(p) === \"\" ? \"\" : \", \" + noted(p)));\n\
+    \x20 const answers = run.predicates.map((each, k) => each.name + \" \" + verdictOf(each) +\n\
+    \x20   run.wishes.filter((wish) => wish.k === k).map(({ kind, came }) => \" (wished \" + kind + \": \" + came\
+    \x20+ \")\").join(\"\") +\n\
+    \x20   \", and is \" + isTrue(each.node, reader(run, cut)) + \" at this cut: \" + each.text);\n\
+    \x20 return [sessionName(run) + \": \" + verdictText(run) + \".\", ...answers, \"The cut \" + cut.join(\",\")\
+    \x20+ \":\", ...values, \"\"]\n\
+    \x20   .join(\"\\n\");\n\
     }\n\
     \n\
     // Which predicates are true at a cut, in words.\n\
@@ -198,7 +218,7 @@ pub(crate) const PANEL: &[u8] = b"\
     \x20   placeText(run, p, i));\n\
     \x20 const steps = run.cycle.map(({ message, receipt, send, next }) => element(\"li\", {}, at(receipt), \" re\
     ceives \",\n\
-    \x20   element(\"code\", {}, run.messages.ids[message]), \" from \", at(send),\n\
+    \x20   element(\"code\", {}, plainText(run.messages.ids[message])), \" from \", at(send),\n\
     \x20   ...(send.i === next.i ? [\"\"] : [\", which comes after \", at(next)])));\n\
     \x20 byId(\"cycle\").append(element(\"p\", {}, \"The session is refused: its events make a causal cycle. Goin\
     g back from \" +\n\
@@ -207,73 +227,81 @@ pub(crate) const PANEL: &[u8] = b"\
     \x20   element(\"ol\", {}, ...steps), element(\"p\", {}, \"So each of these events would have happened before\
     \x20itself. No \" +\n\
     \x20   \"run is so: the recording has events in a wrong order, or gives a message a wrong id. There is no cut\
-    \x20to move, and \" +\n\
-    \x20   \"no predicate is answered.\"));\n\
+    \x20to move, \" +\n\
+    \x20   \"and no predicate is answered.\"));\n\
     }\n\
     \n\
     // ---- values ----------------------------------------------------------------------------------------------\
     -------\n\
     \n\
+    // A grid: of each process its variables, as many side by side as there is room for.\n\
     function makeValues(run, actions) {\n\
-    \x20 const rows = [];\n\
-    \x20 run.names.forEach((name, p) => {\n\
-    \x20   const body = element(\"tbody\", {});\n\
+    \x20 return run.names.map((name, p) => {\n\
     \x20   const count = element(\"span\", { class: \"count\" });\n\
-    \x20   body.append(element(\"tr\", { class: \"process\" }, element(\"th\", { colspan: \"3\", scope: \"rowgrou\
-    p\" }, name, count)));\n\
-    \x20   run.vars[p].forEach((variable, v) => {\n\
-    \x20     const value = element(\"td\", { class: \"value\" });\n\
-    \x20     const by = element(\"td\", { class: \"by\" });\n\
-    \x20     const row = element(\"tr\", {}, element(\"th\", { scope: \"row\" }, variable.name), value, by);\n\
-    \x20     rows.push({ p, v, row, value, by });\n\
-    \x20     body.append(row);\n\
+    \x20   const list = element(\"dl\", { class: \"cells\" });\n\
+    \x20   const wide = [\"of-one\", \"of-one\", \"of-two\"][run.vars[p].length] ?? \"\";\n\
+    \x20   const title = element(\"h3\", {}, element(\"span\", {}, name), count);\n\
+    \x20   const body = element(\"section\", { class: \"process \" + wide }, title, list);\n\
+    \x20   const cells = run.vars[p].map((variable, v) => {\n\
+    \x20     const value = element(\"span\", { class: \"value\" });\n\
+    \x20     const by = element(\"span\", { class: \"by\" });\n\
+    \x20     const cell = element(\"div\", { class: \"cell\" }, element(\"dt\", {}, variable.name), element(\"dd\"\
+    , {}, value, by));\n\
+    \x20     return { p, v, cell, value, by };\n\
     \x20   });\n\
-    \x20   rows.push({ p, v: -1, count, body });\n\
+    \x20   list.append(...cells.map(({ cell }) => cell));\n\
     \x20   byId(\"values\").append(body);\n\
+    \x20   return { p, body, count, list, cells, order: \"\", select: (i) => actions.select(p, i) };\n\
     \x20 });\n\
-    \x20 return rows.map((row) => ({ ...row, select: (i) => actions.select(row.p, i) }));\n\
     }\n\
     \n\
-    // The processes that the predicate shown names come first, with what it names of them marked.\n\
-    let orderedFor = null;\n\
-    function orderValues(run, state, rows) {\n\
-    \x20 if (orderedFor === state.shown) return;\n\
-    \x20 orderedFor = state.shown;\n\
-    \x20 const refs = state.shown < 0 || run.cycle !== null ? [] : run.predicates[state.shown].refs;\n\
-    \x20 const named = processesOf(refs);\n\
-    \x20 const isNamed = (p, v) => refs.some((ref) => ref[0] === p && ref[1] === v);\n\
-    \x20 const bodies = rows.filter(({ v }) => v < 0);\n\
-    \x20 for (const { p, v, row } of rows) if (v >= 0) row.classList.toggle(\"named\", isNamed(p, v));\n\
-    \x20 byId(\"values\").append(...[...bodies.filter(({ p }) => named.has(p)), ...bodies.filter(({ p }) => !name\
-    d.has(p))]\n\
-    \x20   .map(({ body }) => body));\n\
+    // Puts the children of a node in this order, if they have another one, and keeps the focus.\n\
+    function reorder(node, children) {\n\
+    \x20 if (children.every((child, k) => node.children[k] === child)) return;\n\
+    \x20 const focused = document.activeElement;\n\
+    \x20 node.append(...children);\n\
+    \x20 if (node.contains(focused)) focused.focus();\n\
+    }\n\
+    \n\
+    // What is named comes first, then what changed, and then the rest.\n\
+    function byRank(list, rank) {\n\
+    \x20 return list.map((each) => [rank(each), each]).sort(([a], [b]) => a - b).map(([, each]) => each);\n\
     }\n\
     \n\
     function updateValues(run, state, rows) {\n\
-    \x20 orderValues(run, state, rows);\n\
-    \x20 for (const { p, v, row, value, by, count, select } of rows) {\n\
-    \x20   const events = state.cut[p];\n\
-    \x20   if (v < 0) {\n\
-    \x20     count.textContent = events + \" of \" + run.counts[p];\n\
-    \x20     continue;\n\
+    \x20 const refs = state.shown < 0 || run.cycle !== null ? [] : run.predicates[state.shown].refs;\n\
+    \x20 const isNamed = (p, v) => refs.some((ref) => ref[0] === p && ref[1] === v);\n\
+    \x20 const isChanged = (p, v) => valueAt(run, p, v, state.cut[p]) !== valueAt(run, p, v, state.before[p]);\n\
+    \x20 const rank = ({ p, v }) => (isNamed(p, v) ? 0 : isChanged(p, v) ? 1 : 2);\n\
+    \x20 const ranks = rows.map(({ cells }) => Math.min(2, ...cells.map(rank)));\n\
+    \x20 for (const row of rows) {\n\
+    \x20   row.count.textContent = state.cut[row.p] + \" of \" + run.counts[row.p];\n\
+    \x20   for (const each of row.cells) {\n\
+    \x20     each.cell.classList.toggle(\"named\", isNamed(each.p, each.v));\n\
+    \x20     updateValue(run, state, each, row.select);\n\
     \x20   }\n\
-    \x20   const now = valueAt(run, p, v, events);\n\
-    \x20   const before = valueAt(run, p, v, state.before[p]);\n\
-    \x20   const setter = settingEvent(run, p, v, events);\n\
-    \x20   const fresh = setter === events && events > 0;\n\
-    \x20   renew(value, now + \" \" + before,\n\
-    \x20     () => [now, ...(now === before ? [] : [element(\"span\", { class: \"was\" }, \" was \" + before)])])\
-    ;\n\
-    \x20   row.classList.toggle(\"changed\", now !== before);\n\
-    \x20   row.classList.toggle(\"fresh\", fresh);\n\
-    \x20   renew(by, setter + \" \" + fresh, () => (setter === 0 ? [\"initial\"]\n\
-    \x20     : [element(\"button\", { type: \"button\", class: \"plain\", \"aria-label\": \"select event \" + pla\
-    ceText(run, p, setter),\n\
-    \x20                            click: () => select(setter) }, \"#\" + setter),\n\
-    \x20        fresh ? element(\"span\", { class: \"last\", title: \"the last event of this process in the cut s\
-    et it\" }, \" last\")\n\
-    \x20          : null].filter((each) => each !== null)));\n\
+    \x20   reorder(row.list, byRank(row.cells, rank).map(({ cell }) => cell));\n\
     \x20 }\n\
+    \x20 reorder(byId(\"values\"), byRank(rows, ({ p }) => ranks[p]).map(({ body }) => body));\n\
+    }\n\
+    \n\
+    function updateValue(run, state, { p, v, cell, value, by }, select) {\n\
+    \x20 const events = state.cut[p];\n\
+    \x20 const now = valueAt(run, p, v, events);\n\
+    \x20 const before = valueAt(run, p, v, state.before[p]);\n\
+    \x20 const setter = settingEvent(run, p, v, events);\n\
+    \x20 const fresh = setter === events && events > 0;\n\
+    \x20 renew(value, now + \" \" + before,\n\
+    \x20   () => [now, ...(now === before ? [] : [element(\"span\", { class: \"was\" }, \" was \" + before)])]);\n\
+    \x20 cell.classList.toggle(\"changed\", now !== before);\n\
+    \x20 cell.classList.toggle(\"fresh\", fresh);\n\
+    \x20 renew(by, setter + \" \" + fresh, () => (setter === 0 ? [\"initial\"]\n\
+    \x20   : [element(\"button\", { type: \"button\", class: \"plain\", \"aria-label\": \"select event \" + place\
+    Text(run, p, setter),\n\
+    \x20                          click: () => select(setter) }, \"#\" + setter),\n\
+    \x20      fresh ? element(\"span\", { class: \"last\", title: \"the last event of this process in the cut set\
+    \x20it\" }, \" last\")\n\
+    \x20        : null].filter((each) => each !== null)));\n\
     }\n\
     \n\
     // ---- an event --------------------------------------------------------------------------------------------\
@@ -315,7 +343,36 @@ pub(crate) const PANEL: &[u8] = b"\
     \x20     : \", \" + message.words + \" \" + message.ends.map((end) => placeText(run, end.p, end.i)).join(\", \
     \")));\n\
     \x20 }\n\
-    \x20 return parts.join(\"; \");\n\
+    \x20 const noted = noteWords(run, p, i);\n\
+    \x20 return parts.map(plainText).concat(noted === \"\" ? [] : [noted]).join(\"; \");\n\
+    }\n\
+    \n\
+    // A note's text, or a part of it, as letters whose direction stays their own.\n\
+    function noteNode(text) {\n\
+    \x20 const plain = plainText(text);\n\
+    \x20 return element(\"bdi\", { class: \"note\", dir: plain === text ? \"auto\" : \"ltr\" }, plain);   // esca\
+    pes read from the left\n\
+    }\n\
+    \n\
+    // A note's place, as a link if the page has a pattern for links that it fits.\n\
+    function placeNode(run, place) {\n\
+    \x20 const address = linkOf(run.link, place);\n\
+    \x20 if (address === null) return noteNode(place);\n\
+    \x20 const isWeb = /^https?:/i.test(address);\n\
+    \x20 return element(\"a\", { href: address, rel: \"noopener noreferrer\", target: isWeb ? \"_blank\" : null }\
+    , noteNode(place));\n\
+    }\n\
+    \n\
+    // What the note of an event says, as rows of the list beside the drawing.\n\
+    function addNote(run, p, i, add) {\n\
+    \x20 const note = noteAt(run, p, i);\n\
+    \x20 if (note === null) {\n\
+    \x20   if (run.notes !== null) add(\"Note\", \"none\");\n\
+    \x20   return;\n\
+    \x20 }\n\
+    \x20 if (note.text !== \"\") add(\"Note\", noteNode(note.text));\n\
+    \x20 if (note.place !== \"\") add(\"Recorded by\", placeNode(run, note.place));\n\
+    \x20 if (note.clock !== null) add(\"By the clock\", clockText(note.clock));\n\
     }\n\
     \n\
     function updateEvent(run, state, actions) {\n\
@@ -336,15 +393,17 @@ pub(crate) const PANEL: &[u8] = b"\
     \x20 const add = (term, ...words) => list.append(element(\"dt\", {}, term), element(\"dd\", {}, ...words));\n\
     \x20 if (run.cycle === null) add(\"At the cut\", i <= state.cut[p] ? \"it has happened\" : \"it has not happe\
     ned\");\n\
-    \x20 add(\"Recorded in\", sourceOf(run, p, i));\n\
+    \x20 addNote(run, p, i, add);\n\
+    \x20 add(\"Recorded in\", plainText(sourceOf(run, p, i)));\n\
     \x20 const sets = setsOf(run, p, i);\n\
     \x20 add(\"Sets\", sets.length === 0 ? \"nothing\"\n\
     \x20   : sets.map(({ name, value, before: old }) => name + \" = \" + value + \" (was \" + old + \")\").join(\"\
     , \"));\n\
     \x20 const message = messageOf(run, p, i);\n\
     \x20 if (message !== null) {\n\
-    \x20   add(message.verb === \"sends\" ? \"Sends\" : \"Receives\", element(\"code\", {}, message.id), \", \" +\
-    \x20message.words,\n\
+    \x20   add(message.verb === \"sends\" ? \"Sends\" : \"Receives\", element(\"code\", {}, plainText(message.id)\
+    ),\n\
+    \x20     \", \" + message.words,\n\
     \x20     ...message.ends.flatMap((end) => [\" \", element(\"button\",\n\
     \x20       { type: \"button\", class: \"plain\", click: () => actions.select(end.p, end.i) }, placeText(run, \
     end.p, end.i))]));\n\
@@ -387,7 +446,9 @@ pub(crate) const PANEL: &[u8] = b"\
     \x20     element(\"td\", {}, lineOf(run, p, i)),\n\
     \x20     element(\"td\", {}, setsOf(run, p, i).map(({ name, value }) => name + \" = \" + value).join(\", \"))\
     ,\n\
-    \x20     element(\"td\", {}, message === null ? \"\" : message.verb + \" \" + message.id),\n\
+    \x20     element(\"td\", {}, message === null ? \"\" : message.verb + \" \" + plainText(message.id)),\n\
+    \x20     element(\"td\", { class: \"of-notes\" }, noteNode(excerpt(noteAt(run, p, i)?.text ?? \"\", NOTE_EXCE\
+    RPT))),\n\
     \x20     element(\"td\", { class: \"of-cuts\" }, i <= state.cut[p] ? \"yes\" : \"\"));\n\
     \x20 };\n\
     \x20 const chosen = state.selected !== null && state.selected.p === p ? state.selected.i : 0;\n\
@@ -408,8 +469,9 @@ pub(crate) const PANEL: &[u8] = b"\
     \x20 const told = forced.slice(0, 3).map((m) => {\n\
     \x20   const send = placeText(run, from[m], fromEvent[m]);\n\
     \x20   const receipt = placeText(run, to[m], toEvent[m]);\n\
-    \x20   return after[p] > before[p] ? send + \" came with it, for it sends \" + ids[m] + \" to \" + receipt\n\
-    \x20     : receipt + \" went with it, for it receives \" + ids[m] + \" from \" + send;\n\
+    \x20   const id = plainText(ids[m]);\n\
+    \x20   return after[p] > before[p] ? send + \" came with it, for it sends \" + id + \" to \" + receipt\n\
+    \x20     : receipt + \" went with it, for it receives \" + id + \" from \" + send;\n\
     \x20 });\n\
     \x20 if (forced.length > 3) told.push(\"and \" + counted(forced.length - 3, \"process\", \"processes\") + \" \
     more moved\");\n\

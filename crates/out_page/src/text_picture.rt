@@ -185,14 +185,6 @@ pub(crate) const PICTURE: &[u8] = b"\
     \x20 }\n\
     }\n\
     \n\
-    // A text that is at most this wide, cut at its end if it has to be.\n\
-    function fitting(context, text, width) {\n\
-    \x20 let shown = text;\n\
-    \x20 for (let end = text.length; context.measureText(shown).width > width && end > 1;) shown = text.slice(0, \
-    --end) + \"\xe2\x80\xa6\";\n\
-    \x20 return shown;\n\
-    }\n\
-    \n\
     function nameFont(palette, isFolded) {\n\
     \x20 return (isFolded ? \"11px \" : \"bold 13px \") + palette.font;\n\
     }\n\

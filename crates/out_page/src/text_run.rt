@@ -12,13 +12,24 @@ pub(crate) const RUN: &[u8] = b"\
     // ---- the run ---------------------------------------------------------------------------------------------\
     -------\n\
     \n\
-    function readRun(data) {\n\
-    \x20 if (data.format !== 1) throw new Error(\"this page reads format 1, and the data says \" + data.format);\n\
+    // What a page has of a session that is refused without a run: nothing but its report and the explanation.\n\
+    const NO_RUN = { width: 1, processes: [], initial: [], sources: [], events: [], messages: [], predicates: [],\
+    \n\
+    \x20                answers: [] };\n\
+    \n\
+    function readRun(given) {\n\
+    \x20 if (given.format !== 1) throw new Error(\"this page reads format 1, and the data says \" + given.format)\
+    ;\n\
+    \x20 const data = given.refusal === undefined ? given : { ...NO_RUN, ...given };\n\
     \x20 const { events } = data;\n\
     \x20 const names = data.processes.map((process) => process.name);\n\
     \x20 const run = {\n\
     \x20   width: data.width,\n\
     \x20   beyondWidth: data.beyond_width,\n\
+    \x20   refusal: data.refusal ?? null,\n\
+    \x20   link: data.link ?? null,\n\
+    \x20   wishes: [],     // read by `readWishes`\n\
+    \x20   notes: null,    // read by `Notes`, if the page has any\n\
     \x20   size: names.length,\n\
     \x20   names,\n\
     \x20   sources: data.sources,\n\
@@ -35,6 +46,7 @@ pub(crate) const RUN: &[u8] = b"\
     \x20 run.whole = { columns: run.columns, lastColumn: run.lastColumn, spans: run.spans, only: null,\n\
     \x20               shown: run.columns.map((columns) => ({ events: null, columns })) };\n\
     \x20 Object.assign(run, run.whole);\n\
+    \x20 run.places = placesOf(run);\n\
     \x20 // Of a run that is refused no predicate is answered.\n\
     \x20 run.predicates = run.cycle !== null ? [] : data.predicates.map((tree, k) => {\n\
     \x20   const node = readPredicate(tree, names, run.vars);\n\
@@ -428,43 +440,6 @@ pub(crate) const RUN: &[u8] = b"\
     \x20 return [...refs.values()];\n\
     }\n\
     \n\
-    // What the answers say of the whole run, in two words: an answer that is yes counts before one that is unkno\
-    wn.\n\
-    function verdictOf({ possibly: [possibly], definitely: [definitely] }) {\n\
-    \x20 if (definitely === \"yes\") return \"always happens\";\n\
-    \x20 if (possibly === \"yes\") return \"can happen\";\n\
-    \x20 return possibly === \"no\" ? \"cannot happen\" : \"unknown\";\n\
-    }\n\
-    \n\
-    // The verdict on the run: which predicates happen, and how many are unknown.\n\
-    const NAMES_SHOWN = 3;\n\
-    function verdictText(run) {\n\
-    \x20 if (run.cycle !== null) return \"Refused: a causal cycle\";\n\
-    \x20 const of = (...verdicts) =>\n\
-    \x20   run.predicates.filter((each) => verdicts.includes(verdictOf(each))).map(({ name }) => name);\n\
-    \x20 const [only] = run.predicates;\n\
-    \x20 if (run.predicates.length === 1) {\n\
-    \x20   return verdictOf(only) === \"unknown\" ? \"It is unknown whether \" + only.name + \" can happen\"\n\
-    \x20     : only.name + \" \" + verdictOf(only);\n\
-    \x20 }\n\
-    \x20 const [happen, always, unknown] = [of(\"can happen\", \"always happens\"), of(\"always happens\"), of(\"\
-    unknown\")];\n\
-    \x20 const listed = (names) => names.slice(0, NAMES_SHOWN).join(\", \") +\n\
-    \x20   (names.length > NAMES_SHOWN ? \" and \" + (names.length - NAMES_SHOWN) + \" more\" : \"\");\n\
-    \x20 const all = \" of \" + run.predicates.length + \" predicates \";\n\
-    \x20 if (happen.length === 0) {\n\
-    \x20   return unknown.length === 0 ? \"None\" + all + \"can happen\" : unknown.length + all +\n\
-    \x20     (unknown.length === 1 ? \"is unknown\" : \"are unknown\") +\n\
-    \x20     (unknown.length < run.predicates.length ? \"; no other can happen\" : \"\");\n\
-    \x20 }\n\
-    \x20 const parts = [happen.length + all + \"can happen: \" + listed(happen)];\n\
-    \x20 if (always.length > 0) parts.push(listed(always) + \" always \" + (always.length === 1 ? \"happens\" : \"\
-    happen\"));\n\
-    \x20 if (unknown.length > 0) parts.push(unknown.length + (unknown.length === 1 ? \" is\" : \" are\") + \" unk\
-    nown\");\n\
-    \x20 return parts.join(\"; \");\n\
-    }\n\
-    \n\
     // The processes that a predicate names.\n\
     function processesOf(refs) {\n\
     \x20 return new Set(refs.map(([p]) => p));\n\
@@ -564,64 +539,124 @@ pub(crate) const RUN: &[u8] = b"\
     // ---- finding ---------------------------------------------------------------------------------------------\
     -------\n\
     \n\
-    // The events that a query asks for, by column and process, each with the words that say why.\n\
+    // The events that a query asks for, by column and process, each with the words that say why. A note is found\
+    \x20by a part\n\
+    // of it, unless a value or an event's number is asked for; by a part of its name anything else is found, if \
+    nothing has\n\
+    // the query as its whole name.\n\
     function find(run, query) {\n\
     \x20 const text = query.trim();\n\
     \x20 if (text === \"\") return [];\n\
-    \x20 const hits = new Map();\n\
-    \x20 const add = (p, i, why) => {\n\
-    \x20   if (i >= 1 && i <= run.counts[p] && !hits.has(p * 2 ** 24 + i)) hits.set(p * 2 ** 24 + i, { p, i, why \
-    });\n\
-    \x20 };\n\
+    \x20 const hits = new Hits(run);\n\
+    \x20 const add = (p, i, why) => hits.add(p, i, why);\n\
+    \x20 const isAsked = findAsked(run, text, add);\n\
+    \x20 findNamed(run, text, add);\n\
+    \x20 const isNamed = hits.size > 0;\n\
+    \x20 if (text.length < 2 || (isAsked && isNamed)) return hits.inOrder();\n\
+    \x20 const part = text.toLowerCase();\n\
+    \x20 run.notes?.find(part, (p, i) => add(p, i, \"by its note\"));\n\
+    \x20 if (!isNamed) findParts(run, part, add);\n\
+    \x20 return hits.inOrder();\n\
+    }\n\
+    \n\
+    // Events that were found, each with the words that say why it was first. There may be some hundred thousand \
+    of them.\n\
+    class Hits {\n\
+    \x20 constructor(run) {\n\
+    \x20   this.run = run;\n\
+    \x20   this.why = new Array(run.eventCount).fill(null);\n\
+    \x20   this.size = 0;\n\
+    \x20 }\n\
+    \n\
+    \x20 add(p, i, why) {\n\
+    \x20   if (i < 1 || i > this.run.counts[p]) return;\n\
+    \x20   const at = this.run.places.first[p] + i - 1;\n\
+    \x20   if (this.why[at] !== null) return;\n\
+    \x20   this.why[at] = why;\n\
+    \x20   this.size++;\n\
+    \x20 }\n\
+    \n\
+    \x20 inOrder() {\n\
+    \x20   const { first, process, order } = this.run.places;\n\
+    \x20   const found = [];\n\
+    \x20   for (const at of order) {\n\
+    \x20     const why = this.why[at];\n\
+    \x20     if (why !== null) found.push({ p: process[at], i: at - first[process[at]] + 1, why });\n\
+    \x20   }\n\
+    \x20   return found;\n\
+    \x20 }\n\
+    }\n\
+    \n\
+    // Of each process the place of its first event among all, of each place the process, and all places by colum\
+    n and\n\
+    // process.\n\
+    function placesOf(run) {\n\
+    \x20 const { columns } = run.whole;\n\
+    \x20 const first = [];\n\
+    \x20 const process = new Uint8Array(run.eventCount);\n\
+    \x20 const keys = new Float64Array(run.eventCount);\n\
+    \x20 let at = 0;\n\
+    \x20 run.counts.forEach((count, p) => {\n\
+    \x20   first.push(at);\n\
+    \x20   for (let i = 1; i <= count; i++, at++) {\n\
+    \x20     process[at] = p;\n\
+    \x20     keys[at] = columns[p][i] * 2 ** 24 + at;   // places rise with the process\n\
+    \x20   }\n\
+    \x20 });\n\
+    \x20 return { first, process, order: Uint32Array.from(keys.sort(), (key) => key % 2 ** 24) };\n\
+    }\n\
+    \n\
+    function addEvents(run, p, add) {\n\
+    \x20 for (let i = 1; i <= run.counts[p]; i++) add(p, i, \"is an event of \" + run.names[p]);\n\
+    }\n\
+    \n\
+    function addMessage({ messages: { ids, from, fromEvent, to, toEvent } }, m, add) {\n\
+    \x20 add(from[m], fromEvent[m], \"sends \" + ids[m]);\n\
+    \x20 if (to[m] >= 0) add(to[m], toEvent[m], \"receives \" + ids[m]);\n\
+    }\n\
+    \n\
+    // What is asked for by a value, or by an event's number. Is the query one of these?\n\
+    function findAsked(run, text, add) {\n\
     \x20 const asked = (name) => run.names.map((_, p) => p).filter((p) => name === undefined || run.names[p] === \
     name);\n\
-    \x20 const { ids, from, fromEvent, to, toEvent } = run.messages;\n\
-    \x20 const addMessage = (m) => {\n\
-    \x20   add(from[m], fromEvent[m], \"sends \" + ids[m]);\n\
-    \x20   if (to[m] >= 0) add(to[m], toEvent[m], \"receives \" + ids[m]);\n\
-    \x20 };\n\
-    \x20 let match = /^(?:(\\w+)\\s*\\.\\s*)?(\\w+)\\s*(==|=|!=|<=|>=|<|>)\\s*(-?\\d+)$/.exec(text);\n\
-    \x20 if (match !== null) {\n\
-    \x20   const [, name, wanted, relation, number] = match;\n\
+    \x20 const value = /^(?:(\\w+)\\s*\\.\\s*)?(\\w+)\\s*(==|=|!=|<=|>=|<|>)\\s*(-?\\d+)$/.exec(text);\n\
+    \x20 if (value !== null) {\n\
+    \x20   const [, name, wanted, relation, number] = value;\n\
     \x20   const bound = BigInt(number);\n\
     \x20   const exactly = String(bound);\n\
-    \x20   const fits = relation === \"=\" || relation === \"==\" ? (value) => value === exactly\n\
-    \x20     : (value) => compare(BigInt(value), relation, bound);\n\
+    \x20   const fits = relation === \"=\" || relation === \"==\" ? (each) => each === exactly\n\
+    \x20     : (each) => compare(BigInt(each), relation, bound);\n\
     \x20   for (const p of asked(name)) {\n\
     \x20     for (const variable of run.vars[p].filter((each) => each.name === wanted)) {\n\
-    \x20       variable.values.forEach((value, k) => {\n\
-    \x20         if (fits(value)) add(p, variable.at[k], \"sets \" + wanted + \" to \" + value);\n\
+    \x20       variable.values.forEach((each, k) => {\n\
+    \x20         if (fits(each)) add(p, variable.at[k], \"sets \" + wanted + \" to \" + each);\n\
     \x20       });\n\
     \x20     }\n\
     \x20   }\n\
     \x20 }\n\
-    \x20 match = /^(?:(\\w+)\\s*[# ]\\s*|#)?(\\d+)$/.exec(text);\n\
-    \x20 if (match !== null) {\n\
-    \x20   for (const p of asked(match[1])) add(p, Number(match[2]), \"is event \" + match[2]);\n\
+    \x20 const event = /^(?:(\\w+)\\s*[# ]\\s*|#)?(\\d+)$/.exec(text);\n\
+    \x20 if (event !== null) {\n\
+    \x20   for (const p of asked(event[1])) add(p, Number(event[2]), \"is event \" + event[2]);\n\
     \x20 }\n\
-    \x20 const addEvents = (p) => {\n\
-    \x20   for (let i = 1; i <= run.counts[p]; i++) add(p, i, \"is an event of \" + run.names[p]);\n\
-    \x20 };\n\
+    \x20 return value !== null || event !== null;\n\
+    }\n\
+    \n\
+    // What is called so: the events of a process, or the ends of a message.\n\
+    function findNamed(run, text, add) {\n\
     \x20 const process = run.names.indexOf(text);\n\
-    \x20 if (process >= 0) addEvents(process);\n\
-    \x20 const named = ids.includes(text);\n\
-    \x20 if (named) ids.forEach((id, m) => { if (id === text) addMessage(m); });\n\
-    \x20 if (hits.size > 0 || text.length < 2) return inOrder(run, hits);\n\
-    \x20 // Nothing is called so: what has it as a part of its name.\n\
-    \x20 const part = text.toLowerCase();\n\
+    \x20 if (process >= 0) addEvents(run, process, add);\n\
+    \x20 const { ids } = run.messages;\n\
+    \x20 for (let m = ids.indexOf(text); m >= 0; m = ids.indexOf(text, m + 1)) addMessage(run, m, add);\n\
+    }\n\
+    \n\
+    // What has a text of small letters as a part of its name.\n\
+    function findParts(run, part, add) {\n\
     \x20 const has = (name) => name.toLowerCase().includes(part);\n\
-    \x20 run.names.forEach((name, p) => { if (has(name)) addEvents(p); });\n\
+    \x20 run.names.forEach((name, p) => { if (has(name)) addEvents(run, p, add); });\n\
     \x20 run.vars.forEach((vars, p) => vars.filter(({ name }) => has(name)).forEach(({ name, at, values }) => {\n\
     \x20   at.forEach((i, k) => add(p, i, \"sets \" + name + \" to \" + values[k]));\n\
     \x20 }));\n\
-    \x20 ids.forEach((id, m) => { if (has(id)) addMessage(m); });\n\
-    \x20 return inOrder(run, hits);\n\
-    }\n\
-    \n\
-    // Hits by column and process.\n\
-    function inOrder(run, hits) {\n\
-    \x20 const { columns } = run.whole;\n\
-    \x20 return [...hits.values()].sort((a, b) => columns[a.p][a.i] - columns[b.p][b.i] || a.p - b.p);\n\
+    \x20 run.messages.ids.forEach((id, m) => { if (has(id)) addMessage(run, m, add); });\n\
     }\n\
     \n\
     // ---- the address -----------------------------------------------------------------------------------------\
@@ -688,7 +723,7 @@ pub(crate) const RUN: &[u8] = b"\
     ate, isTrue,\n\
     \x20                    deciding, stepsOf, cutAtStep, find, fragmentOf, readFragment, sentBy, lineOf, sourceO\
     f,\n\
-    \x20                    verdictOf, verdictText, RELATIONS };\n\
+    \x20                    processesOf, RELATIONS };\n\
     }\n\
     </script>\n\
     ";

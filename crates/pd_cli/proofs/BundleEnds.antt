@@ -3,6 +3,7 @@ use Rattle.std.proofs.Common.{◌≡◌, ◌≤◌, ℕ, List, [], ◌∷◌, dr
 use Rattle.std.specs.Prelude.{Bool}
 use Rattle.clap.specs.Walk.{Text}
 use Rattle.app_arguments.specs.Statuses.{Ending, Success, Negative, Alarm, NoPredicate, Misuse, Failed, MemoryFailure, ReadFailure, WriteFailure, BundleFailure, NetworkFailure, Ends, JudgeInput, JudgementLeaves, File, status_of}
+use Rattle.app_arguments.specs.Places.{Place}
 use Rattle.def_judgement.specs.Writes.{IsJudged, IsRefused, Source, WritesTruthOfBundle}
 use Rattle.def_judgement.proofs.TextsOwed.{truth_of_bundle_text}
 use Rattle.app_arguments.specs.Arguments.{AsksFor, of_input}
@@ -10,12 +11,7 @@ use Rattle.pd_cli.specs.Runs.{RunsAsAsked}
 use Rattle.app_arguments.proofs.Parsed.{nothing_is_no_command, nothing_is_taken}
 
 none_asks : AsksFor [] JudgeInput
-none_asks = of_input nothing_is_taken (λ found. let is = found.1 in let none = nothing_is_no_command in cc)
-    (λ found. let is = found.1 in let none = nothing_is_no_command in cc)
-    (λ found. let is = found.1 in let none = nothing_is_no_command in cc)
-    (λ found. let is = found.1 in let none = nothing_is_no_command in cc)
-    (λ found. let is = found.1 in let none = nothing_is_no_command in cc)
-    (λ found. let is = found.1 in let none = nothing_is_no_command in cc)
+none_asks = of_input nothing_is_taken nothing_is_no_command
 
 pub none_left : {A B : Type 0} (f : A → B) (xs : List A) → length xs ≤ 1 → drop 1 (map f xs) ≡ []
 none_left f [] le = refl
@@ -23,7 +19,7 @@ none_left f (x ∷ []) le = refl
 none_left f (x ∷ y ∷ xs) le = absurd (omega arith)
 
 pub as_asked_by_none : (arguments : List Text) (input : Source) (files : List ℕ → File)
-    (connections : ℕ → Source → Type 0) (network_serves : Bool) (status : ℕ)
+    (connections : Place → Source → Type 0) (network_serves : Bool) (status : ℕ)
     (old new errors_old errors_new : Option (List ℕ)) → arguments ≡ []
     → Ends (λ ending. JudgementLeaves input ending old new) status errors_old errors_new
     → RunsAsAsked arguments input files connections network_serves status old new errors_old errors_new

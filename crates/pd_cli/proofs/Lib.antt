@@ -5,5 +5,7 @@ mod DrawingsRead
 mod Explanations
 mod ExplorationEnds
 mod FilesAgain
+mod NotesRead
 mod ParserEnds
 mod UnreadDrawings
+mod WishedNames

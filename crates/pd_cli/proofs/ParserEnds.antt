@@ -5,8 +5,10 @@ use Rattle.clap.specs.Walk.{Text}
 use Rattle.clap.specs.declared.error.kind.ErrorKind.{ErrorKind}
 use Rattle.clap.specs.declared.error.kind.ErrorKind.TheVariants as kind
 use Rattle.app_arguments.specs.Statuses.{Failed, MemoryFailure, Ends, HelpLeaves, MisuseLeaves, File, ShowHelp, ShowVersion, Unclear, VersionLeaves}
+use Rattle.app_arguments.specs.Places.{Place}
 use Rattle.def_judgement.specs.Writes.{Source}
-use Rattle.app_arguments.specs.Arguments.{IsErrorOf, IsShownKind}
+use Rattle.app_arguments.specs.Arguments.{IsShownKind}
+use Rattle.app_arguments.specs.Views.{IsErrorOf}
 use Rattle.pd_cli.specs.Runs.{RunsAsAsked}
 
 data KindCase (k : ErrorKind) : Type 0 where
@@ -45,7 +47,7 @@ pub record EndsByKind (k : ErrorKind) (status : ℕ) (old new errors_old errors_
 
 -- from an end by the kind of the error, one by what is asked for
 as_asked : (arguments : List Text) (input : Source) (files : List ℕ → File)
-    (connections : ℕ → Source → Type 0) (network_serves : Bool) (status : ℕ)
+    (connections : Place → Source → Type 0) (network_serves : Bool) (status : ℕ)
     (old new errors_old errors_new : Option (List ℕ)) (k : ErrorKind) → KindCase k → IsErrorOf arguments k
     → EndsByKind k status old new errors_old errors_new
     → RunsAsAsked arguments input files connections network_serves status old new errors_old errors_new
@@ -63,7 +65,7 @@ as_asked arguments input files connections network_serves status old new errors_
     inr (Unclear, is_error.unclear is_not un, ends.misused is_not un)
 
 pub error_as_asked : (arguments : List Text) (input : Source) (files : List ℕ → File)
-    (connections : ℕ → Source → Type 0) (network_serves : Bool) (status : ℕ)
+    (connections : Place → Source → Type 0) (network_serves : Bool) (status : ℕ)
     (old new errors_old errors_new : Option (List ℕ)) (k : ErrorKind) → IsErrorOf arguments k
     → EndsByKind k status old new errors_old errors_new
     → RunsAsAsked arguments input files connections network_serves status old new errors_old errors_new

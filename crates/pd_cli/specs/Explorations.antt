@@ -1,21 +1,87 @@
 -- What a run that explores leaves on its output.
-use Rattle.std.specs.Prelude.{ℕ, List, Option}
-use Rattle.def_format.specs.Documents.{Inquiry}
+use Rattle.std.specs.Prelude.{◌≡◌, ◌≤◌, ◌⊎◌, ℕ, true, false, All, List, [], ◌∷◌, ◌++◌, length, map, unwrap_or, Option, Some, IfSome}
+use Rattle.std.specs.List.{AllZip}
+use Rattle.std.specs.Str.{IsUtf8}
+use Rattle.def_format.specs.Documents.{Inquiry, Options}
 use Rattle.def_format.specs.Reports.{Report}
-use Rattle.app_arguments.specs.Conditions.{Condition}
-use Rattle.app_arguments.specs.Statuses.{Ending, OfReport}
+use Rattle.app_arguments.specs.Conditions.{Condition, SomeUnknown}
+use Rattle.app_arguments.specs.Statuses.{Ending, File, LeavesOf, MayBeUnread, OfNamed, OfReport, PageOptions, sources_of}
+use Rattle.app_host.specs.FileSources.{bytes_in}
 use Rattle.def_judgement.specs.Writes.{Source}
 use Rattle.judge_explore.specs.Explored.{IsOwed}
-use Rattle.judge_explore.specs.Sources.{StreamFile}
+use Rattle.judge_explore.specs.Sources.{AreFilesOf, StreamFile}
+use Rattle.judge_runs.specs.Wishes as wished
+use Rattle.out_page.specs.ExtraData as shown
+use Rattle.out_page.specs.ExtraData.{Extras}
 
--- the text that is owed of a session with some files of which this holds
-abbrev pub IsOwedWith : (AreFiles : List StreamFile → Type 0) → Inquiry → (streams : List Source)
-    (IsSaid : Report → Type 0) (text : List ℕ) → Type 0
-IsOwedWith AreFiles inquiry streams IsSaid text =
-    (files : List StreamFile) × AreFiles files × IsOwed inquiry files streams IsSaid text
+-- ---- what the page has beside its session
 
--- The page of a session, or the text of the report of one that is refused, is left as a judgement's report is.
-abbrev pub OfPage : (AreFiles : List StreamFile → Type 0) (streams : List Source) (fail_on : List Condition) → Inquiry
-    → Ending → (old new : Option (List ℕ)) → Type 0
-OfPage AreFiles streams fail_on inquiry ending old new =
-    OfReport (IsOwedWith AreFiles inquiry streams) fail_on ending old new
+abbrev pub shown_kind : wished.WishKind → shown.WishKind
+shown_kind wished.Never = shown.Never
+shown_kind wished.Always = shown.Always
+shown_kind wished.Sometimes = shown.Sometimes
+
+abbrev pub shown_wish : wished.Wish → shown.Wish
+shown_wish wish = record { kind = shown_kind wish.kind; name = unwrap_or wish.name [] }
+
+-- the note is all that the file of this name holds, if that is known
+abbrev pub IsNoteOf : (bytes_of : List ℕ → Option (List ℕ)) → (name note : List ℕ) → Type 0
+IsNoteOf bytes_of name note = IfSome (bytes_of name) (λ bytes. note ≡ bytes)
+
+-- what is asked for, with the notes in the files of these names
+pub record AreExtras (bytes_of : List ℕ → Option (List ℕ)) (page : PageOptions) (extras : Extras) : Type 0 where
+  pub wishes : extras.wishes ≡ map shown_wish page.wishes
+  pub notes : AllZip (IsNoteOf bytes_of) page.notes extras.notes
+  pub link : extras.link ≡ page.link
+
+-- the most bytes that a file of notes may have
+abbrev pub notes_byte_limit : ℕ
+notes_byte_limit = 67108864
+
+-- The file can surely be opened and read to its end, and what it holds is text, and not too long.
+pub record IsNotesFile (file : File) : Type 0 where
+  pub opens : file.opens ≡ true
+  pub ends : file.source.fails ≡ Some false
+  pub bytes : List ℕ
+  pub known : file.source.bytes ≡ Some bytes
+  pub is_text : IsUtf8 bytes
+  pub fits : length bytes ≤ notes_byte_limit
+
+-- ---- the predicates that are named
+
+-- a condition on the predicate of a wish: of its kind nothing is asked
+abbrev pub named_by : wished.Wish → Condition
+named_by wish = record { name = wish.name; kind = SomeUnknown }
+
+-- the conditions on predicates that are named by conditions to fail on and by wishes
+abbrev pub all_named : (fail_on : List Condition) (wishes : List wished.Wish) → List Condition
+all_named fail_on wishes = fail_on ++ map named_by wishes
+
+-- ---- what is left
+
+-- the text that is owed of a session with what is asked for beside it, and with some files of these names
+abbrev pub IsOwedWith : (bytes_of : List ℕ → Option (List ℕ)) (page : PageOptions) (names : List (List ℕ)) → Inquiry
+    → (streams : List Source) (IsSaid : Report → Type 0) (text : List ℕ) → Type 0
+IsOwedWith bytes_of page names inquiry streams IsSaid text =
+    (extras : Extras) × AreExtras bytes_of page extras × (files : List StreamFile) × AreFilesOf bytes_of names files
+    × IsOwed inquiry extras files streams IsSaid text
+
+-- The page of a session, or of its refusal, is left as a judgement's report is.
+abbrev pub OfPage : (bytes_of : List ℕ → Option (List ℕ)) (page : PageOptions) (names : List (List ℕ))
+    (streams : List Source) (fail_on : List Condition) → Inquiry → Ending → (old new : Option (List ℕ)) → Type 0
+OfPage bytes_of page names streams fail_on inquiry ending old new =
+    OfReport (IsOwedWith bytes_of page names inquiry streams) fail_on ending old new
+
+-- A file of the session may be such that it can't be opened, or the document such that it can't be read; or not each
+-- file of notes holds such.
+abbrev pub UnreadPage : (files : List ℕ → File) (document : List ℕ) (streams notes : List (List ℕ)) → Type 0
+UnreadPage files document streams notes =
+    MayBeUnread (files document ∷ map files streams) (files document ∷ []) ⊎ (All IsNotesFile (map files notes) → ⊥)
+
+-- what is left of a run that explores the session in files of these names
+abbrev pub ExplorationLeaves : (files : List ℕ → File) (options : Options) (fail_on : List Condition)
+    (page : PageOptions) (document : List ℕ) (streams : List (List ℕ)) → Ending → (old new : Option (List ℕ)) → Type 0
+ExplorationLeaves files options fail_on page document streams ending old new =
+    LeavesOf options (files document) (UnreadPage files document streams page.notes)
+    (OfNamed (all_named fail_on page.wishes)
+    (OfPage (bytes_in files) page streams (sources_of (map files streams)) fail_on)) ending old new

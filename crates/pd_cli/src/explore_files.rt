@@ -1,58 +1,120 @@
 //! Explores the session in files.
 ghost use Rattle.app_arguments.specs.ConditionViews.{fail_on_view};
 ghost use Rattle.app_arguments.specs.Conditions.{Condition};
-ghost use Rattle.app_arguments.specs.Statuses.{OfNamed, OfReport, SessionLeaves};
-ghost use Rattle.app_arguments.specs.Views.{session_view};
-ghost use Rattle.pd_cli.specs.Explorations.{OfPage};
+ghost use Rattle.app_arguments.specs.Statuses.{OfNamed, OfReport};
+ghost use Rattle.app_arguments.specs.Views.{page_view, session_view};
+ghost use Rattle.pd_cli.specs.Explorations.{AreExtras, ExplorationLeaves, OfPage, all_named};
 ghost use Rattle.app_host.specs.Faults.{judgement_ending, named_ending};
 ghost use Rattle.app_host.specs.FileSources.{ReadLeaves, bytes_in};
-ghost use Rattle.judge_explore.specs.Explored.{IsOwed};
+ghost use Rattle.def_format.specs.Documents as documents;
+ghost use Rattle.def_judgement.specs.Writes.{Source};
+ghost use Rattle.judge_explore.specs.Explored.{IsOwed, IsOwnRefusal};
 ghost use Rattle.judge_explore.specs.FileViews.{file_view, files_view};
-ghost use Rattle.judge_explore.specs.Sources.{AreFilesOf, IsFileOf, stream_bytes};
+ghost use Rattle.judge_explore.specs.Sources.{AreFilesOf, IsFileOf, StreamFile as SourceFile, stream_bytes};
+ghost use Rattle.judge_session.specs.Unanswered.{IsUnanswered};
 ghost use Rattle.judge_session.specs.Inquiries.{inquiry_view};
+ghost use Rattle.out_page.specs.ExtraData.{Extras as Beside};
+ghost use Rattle.out_page.specs.Views.{extras_view};
+ghost use Rattle.pd_engine.specs.Ends.{IsGiven};
 ghost use Rattle.pd_spec.specs.Views.{options_view};
-ghost use Rattle.std.specs.Prelude.{◌≡◌, ◌⊎◌, All, IfErr, IfOk, IfSome, List, false, map};
+ghost use Rattle.std.specs.Prelude.{◌≡◌, ◌⊎◌, All, IfErr, IfOk, IfSome, List, Ok, false, map};
 
-use app_arguments::{Judgement, Workers};
-use app_host::{FileSource, System, World, has_named, read_session};
+use super::page_extras::extras_of;
+use super::wished::has_all_named;
+use app_arguments::{Judgement, PageOptions, SessionNames};
+use app_ends::refusal_text;
+use app_host::{FileSource, System, World, read_session};
 use def_format::STREAM_BYTE_LIMIT;
-use judge_explore::{StreamFile, explore};
-use judge_session::{EngineFault, read_upto};
+use judge_explore::{Page, StreamFile, explore, refused_page, write_page};
+use judge_session::{EngineFault, Unanswered, read_upto};
+use out_page::Extras;
 use pd_engine::{ByteSource, Gate, Inquiry, Report};
 use std::alloc::{AllocError, Global};
 use std::io::Write;
 
-/// Explores a document, with what is asked, and the streams, writes the page or the report of a refusal, and flushes
-/// the output. It gives the report.
+/// The page of the refusal of the session in files, with its explanation.
+///
+/// # Errors
+/// `Memory`.
+fn unanswered_page<Y: System>(
+    world: &World<'_, Y>,
+    names: &SessionNames<'_>,
+    unanswered: Unanswered,
+) -> Result<Page, EngineFault>
+    // It is owed of each inquiry and of readers of which the refusal is, whatever the files.
+    ensures page { (inquiry : documents.Inquiry) (extras : Beside) (files : List SourceFile) (inputs : List Source)
+        → IsUnanswered (IsOwnRefusal inquiry inputs) unanswered → IfOk result (λ page.
+        IsOwed inquiry extras files inputs (IsGiven (Ok page.report)) page.text.items) }
+    ensures err { IfErr result (λ fault. fault ≡ EngineFault.Memory) }
+{
+    match unanswered {
+        Unanswered::Refused(refusal) => {
+            let text = refusal_text(world, names, &refusal);
+            let page = refused_page(world.alloc, refusal, &text)?;
+            Ok(page)
+        }
+        Unanswered::Memory => Err(EngineFault::Memory),
+    }
+}
+
+/// The page of a document, with what is asked, and the streams, or of their refusal, with its explanation.
+///
+/// # Errors
+/// `Memory`.
+fn page_of<Y: System, R: ByteSource + Send + Drop, G: Gate + Sync>(
+    world: &World<'_, Y>,
+    inquiry: Inquiry<'_, '_, '_>,
+    extras: &Extras<'_>,
+    sources: &[StreamFile<'_>],
+    streams: Vec<R>,
+    judgement: &Judgement<'_>,
+    gate: &G,
+) -> Result<Page, EngineFault>
+    requires { All (λ stream. R.has_ended stream ≡ false) streams.items }
+    ensures page { IfOk result (λ page. IsOwed (inquiry_view inquiry.entry) (extras_view extras.now)
+        (files_view sources.now) (map R.left streams.items) (IsGiven (Ok page.report)) page.text.items) }
+    ensures err { IfErr result (λ fault. fault ≡ EngineFault.Memory) }
+{
+    let workers = judgement.workers.count();
+    match explore(
+        world.rt,
+        world.alloc,
+        inquiry,
+        extras,
+        sources,
+        streams,
+        workers,
+        gate,
+    ) {
+        Ok(page) => Ok(page),
+        Err(unanswered) => unanswered_page(world, &judgement.names, unanswered),
+    }
+}
+
+/// Explores a document, with what is asked, and the streams, writes the page, or that of the refusal, and flushes the
+/// output. It gives the report.
 ///
 /// # Errors
 /// `Memory` leaves nothing written. `Write` leaves a part of the text written, or all of it if only the flush failed.
 fn explore_read<Y: System, R: ByteSource + Send + Drop, G: Gate + Sync, O: Write>(
     world: &World<'_, Y>,
     inquiry: Inquiry<'_, '_, '_>,
+    extras: &Extras<'_>,
     sources: &[StreamFile<'_>],
     streams: Vec<R>,
-    workers: &Workers,
+    judgement: &Judgement<'_>,
     gate: &G,
     output: &mut O,
 ) -> Result<Report, EngineFault>
     requires { All (λ stream. R.has_ended stream ≡ false) streams.items }
     // This is said for all answers on which the run may be to fail.
     ensures written { (fail_on : List Condition) → ReadLeaves (OfReport (IsOwed (inquiry_view inquiry.entry)
-        (files_view sources.now) (map R.left streams.items)) fail_on) (judgement_ending fail_on result)
-        (O.contents output.old) (O.contents output.new) }
+        (extras_view extras.now) (files_view sources.now) (map R.left streams.items)) fail_on)
+        (judgement_ending fail_on result) (O.contents output.old) (O.contents output.new) }
     ensures err { IfErr result (λ fault. (fault ≡ EngineFault.Memory) ⊎ (fault ≡ EngineFault.Write)) }
 {
-    let report = explore(
-        world.rt,
-        world.alloc,
-        inquiry,
-        sources,
-        streams,
-        workers.count(),
-        gate,
-        output,
-    )?;
+    let page = page_of(world, inquiry, extras, sources, streams, judgement, gate)?;
+    let report = write_page(page, output)?;
     if output.flush().is_err() {
         return Err(EngineFault::Write);
     }
@@ -138,59 +200,68 @@ fn stream_files<'a, Y: System>(
 fn explore_named<Y: System, R: ByteSource + Send + Drop, G: Gate + Sync, O: Write>(
     world: &World<'_, Y>,
     inquiry: Inquiry<'_, '_, '_>,
+    extras: &Extras<'_>,
     streams: Vec<R>,
     judgement: &Judgement<'_>,
+    page: &PageOptions<'_>,
     gate: &G,
     output: &mut O,
 ) -> Result<Option<Report>, EngineFault>
     requires { All (λ stream. R.has_ended stream ≡ false) streams.items }
-    ensures { ReadLeaves (OfNamed (fail_on_view judgement.now.fail_on)
-        (OfPage (AreFilesOf (bytes_in (Y.Files.file_of world.now.files.now)) (session_view judgement.now.names).1)
-        (map R.left streams.items) (fail_on_view judgement.now.fail_on)) (inquiry_view inquiry.entry))
-        (named_ending (fail_on_view judgement.now.fail_on) result) (O.contents output.old) (O.contents output.new) }
+    ensures { AreExtras (bytes_in (Y.Files.file_of world.now.files.now)) (page_view page.now) (extras_view extras.now)
+        → ReadLeaves (OfNamed (all_named (fail_on_view judgement.now.fail_on) (page_view page.now).wishes)
+        (OfPage (bytes_in (Y.Files.file_of world.now.files.now)) (page_view page.now)
+        (session_view judgement.now.names).1 (map R.left streams.items) (fail_on_view judgement.now.fail_on))
+        (inquiry_view inquiry.entry)) (named_ending (fail_on_view judgement.now.fail_on) result)
+        (O.contents output.old) (O.contents output.new) }
 {
-    if !has_named(world.alloc, inquiry, &judgement.fail_on)? {
+    if !has_all_named(world.alloc, inquiry, &judgement.fail_on, &page.wishes)? {
         return Ok(None);
     }
     let sources = stream_files(world, &judgement.names.streams)?;
-    let workers = &judgement.workers;
-    match explore_read(world, inquiry, &sources, streams, workers, gate, output) {
+    match explore_read(
+        world, inquiry, extras, &sources, streams, judgement, gate, output,
+    ) {
         Ok(report) => Ok(Some(report)),
         Err(fault) => Err(fault),
     }
 }
 
-/// Opens the files of a session, the document and then the streams, reads the document, looks up in it the predicates
-/// that are named, explores it, with what is asked, and the streams, writes the page or the report of a refusal, and
-/// flushes the output. It gives the report, or nothing if a predicate that is named isn't there: then no stream is
-/// read, and nothing is written. All files are opened before one is read. A stream whose read fails later is a fault of
-/// that stream.
+/// Opens the files of a session, the document and then the streams, reads the document and the files of notes, looks up
+/// in the document the predicates that are named, explores it, with what is asked, and the streams, writes the page, or
+/// that of the refusal, and flushes the output. It gives the report, or nothing if a predicate that is named isn't
+/// there: then no stream is read, and nothing is written. All files of the session are opened before one is read. A
+/// stream whose read fails later is a fault of that stream.
 ///
 /// # Errors
-/// `Read`, if a file can't be opened or the document can't be read, and `Memory` leave nothing written. `Write` leaves
-/// a part of the text written, or all of it if only the flush failed.
+/// `Read`, if a file can't be opened or the document can't be read, or a file of notes isn't text or is too long, and
+/// `Memory` leave nothing written. `Write` leaves a part of the text written, or all of it if only the flush failed.
 pub(crate) fn explore_files<Y: System, G: Gate + Sync, O: Write>(
     world: &World<'_, Y>,
     judgement: &Judgement<'_>,
+    page: &PageOptions<'_>,
     gate: &G,
     output: &mut O,
 ) -> Result<Option<Report>, EngineFault>
-    ensures { SessionLeaves (Y.Files.file_of world.now.files.now) (options_view judgement.now.names.options)
-        judgement.now.names.spec.now (session_view judgement.now.names).1
-        (λ sources. OfNamed (fail_on_view judgement.now.fail_on)
-        (OfPage (AreFilesOf (bytes_in (Y.Files.file_of world.now.files.now)) (session_view judgement.now.names).1)
-        sources (fail_on_view judgement.now.fail_on)))
-        (named_ending (fail_on_view judgement.now.fail_on) result) (O.contents output.old) (O.contents output.new) }
+    ensures { ExplorationLeaves (Y.Files.file_of world.now.files.now) (options_view judgement.now.names.options)
+        (fail_on_view judgement.now.fail_on) (page_view page.now) judgement.now.names.spec.now
+        (session_view judgement.now.names).1 (named_ending (fail_on_view judgement.now.fail_on) result)
+        (O.contents output.old) (O.contents output.new) }
 {
     match read_session(world, &judgement.names) {
-        Ok(read) => {
-            let streams = read.streams;
-            let inquiry = Inquiry {
-                document: &read.document,
-                options: &judgement.names.options,
-            };
-            explore_named(world, inquiry, streams, judgement, gate, output)
-        }
+        Ok(read) => match extras_of(world, page, judgement.names.streams.len()) {
+            Ok(extras) => {
+                let streams = read.streams;
+                let inquiry = Inquiry {
+                    document: &read.document,
+                    options: &judgement.names.options,
+                };
+                explore_named(
+                    world, inquiry, &extras, streams, judgement, page, gate, output,
+                )
+            }
+            Err(fault) => Err(fault),
+        },
         Err(fault) => Err(fault),
     }
 }

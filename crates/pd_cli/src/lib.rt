@@ -7,15 +7,17 @@
 //! a report's evidence: at status 0 nothing that it found is bad, and at 1 something is. `draw` with the names of files
 //! draws a report: at status 0 the picture is written, and at 1 something that a check finds stands against it. `serve`
 //! with a port judges streams that come by connections to that port. `explore` with the names of files judges as
-//! `judge` does: at status 0 the page is written on which the run is explored, and at 1 the report of a refusal, or the
-//! page of a causal cycle. Whatever fails is reported in one line on the errors, after an explanation if one is wanted.
-//! What each status says stands in `specs/Drawings.antt` for `draw`, in `specs/Explorations.antt` for `explore`, and
-//! for the others in `app_arguments/specs/Statuses.antt`.
+//! `judge` does: at status 0 the page is written on which the run is explored, and at 1 the page of a refusal. Whatever
+//! fails is reported in one line on the errors, after an explanation if one is wanted. What each status says stands in
+//! `specs/Drawings.antt` for `draw`, in `specs/Explorations.antt` for `explore`, and for the others in
+//! `app_arguments/specs/Statuses.antt`.
 //!
 //! - `program`: one run of the program, from its arguments to its exit status
 //! - `parser_error`: reports what the command line's parser has to say
 //! - `bundle`: judges the bundle on the input
 //! - `draw_files`: draws a report with the session in files
+//! - `wished`: looks up the predicates that conditions and wishes name
+//! - `page_extras`: what a page has beside its session, by what is asked for
 //! - `explore_files`: explores the session in files
 //! - `explaining`: whether the arguments ask for explanations
 //! - `explanation`: writes an explanation to the errors
@@ -26,9 +28,12 @@ mod draw_files;
 mod explaining;
 mod explanation;
 mod explore_files;
+mod page_extras;
 mod parser_error;
 mod program;
+mod wished;
 
+pub use app_arguments::Place;
 pub use app_host::{FileSource, Network};
 pub use explaining::without_explain;
 pub use parser_error::report_unread_arguments;

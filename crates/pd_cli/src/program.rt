@@ -1,29 +1,28 @@
 //! One run of the program.
-ghost use Rattle.app_arguments.specs.Arguments.{port_limit};
+ghost use Rattle.app_arguments.specs.Views.{place_view};
+ghost use Rattle.app_serve.specs.Kept.{AsksForFiles};
 ghost use Rattle.pd_cli.specs.Drawings.{EndsDrawn};
-ghost use Rattle.app_host.specs.FileSources.{bytes_in};
 ghost use Rattle.pd_cli.specs.Explained.{Explained};
-ghost use Rattle.pd_cli.specs.Explorations.{OfPage};
+ghost use Rattle.pd_cli.specs.Explorations.{ExplorationLeaves};
 ghost use Rattle.pd_cli.specs.Runs.{RunsAsAsked};
-ghost use Rattle.judge_explore.specs.Sources.{AreFilesOf};
 ghost use Rattle.out_picture.specs.Scopes.{scope_view};
 ghost use Rattle.app_arguments.specs.ConditionViews.{fail_on_view};
 ghost use Rattle.app_arguments.specs.Statuses.{Ends, JudgementLeaves, LeavesOf, MayBeUnread, OfConnections, OfFinding, OfNamed, ServiceMayFail, SessionLeaves, UnreadClaim, sources_of};
-ghost use Rattle.app_arguments.specs.Views.{format_view, keep_view, names_view, session_view};
+ghost use Rattle.app_arguments.specs.Views.{format_view, names_view, page_view, session_view};
 ghost use Rattle.app_host.specs.Formats.{OfFormat};
 ghost use Rattle.app_test.specs.Tests.{TestLeaves};
 ghost use Rattle.judge_runs.specs.Views.{wishes_view};
 ghost use Rattle.def_judgement.specs.Writes.{WritesTruthOfBundle};
 ghost use Rattle.pd_spec.specs.Views.{options_view};
-ghost use Rattle.std.specs.Prelude.{◌≡◌, ◌≢◌, ◌≤◌, ◌∷◌, [], drop, false, length, map, vec_len, None};
+ghost use Rattle.std.specs.Prelude.{◌≡◌, ◌≤◌, ◌∷◌, [], drop, false, length, map, vec_len};
 
 use super::bundle::judge_input;
 use super::draw_files::{draw_files, report_drawing};
 use super::explanation::write_explanation;
 use super::explore_files::explore_files;
 use super::parser_error::report_parser_error;
-use app_arguments::{Format, Judgement, Request, Service, SessionNames, Test, parse};
-use app_ends::{bundle_text, check_text, drawing_text, judgement_text};
+use app_arguments::{Format, Judgement, PageOptions, Request, Service, SessionNames, Test, parse};
+use app_ends::{bundle_text, check_text, drawing_text, exploration_text, judgement_text};
 use app_host::{
     FileSource, LevelGate, Network, NotedSource, Notes, System, World, check_files, judge_files,
     report_bundle, report_end, report_judgement,
@@ -79,21 +78,19 @@ fn run_draw<Y: System, O: Write, E: Write>(
     report_drawing(&end, errors)
 }
 
-/// Judges a session whose streams come by connections, and gives the exit status. The port is from 1 to 65,534.
+/// Judges a session whose streams come by connections, and gives the exit status.
 fn run_service<Y: System, O: Write, E: Write>(
     world: &World<'_, Y>,
     service: &Service<'_>,
     output: &mut O,
     errors: &mut E,
 ) -> u8
-    requires some { 1 ≤ service.now.port }
-    requires port { service.now.port ≤ port_limit }
     ensures { Explained world.now.explain (λ start. Ends (λ ending. LeavesOf (options_view service.now.options)
         (Y.Files.file_of world.now.files.now service.now.spec.now) (MayBeUnread (Y.Files.file_of world.now.files.now
         service.now.spec.now ∷ []) (Y.Files.file_of world.now.files.now service.now.spec.now ∷ []))
         (OfNamed (fail_on_view service.now.fail_on) (OfConnections
-        (Y.Network.may_give world.now.network.now service.now.port) (ServiceMayFail service.now.wait
-        Y.Network.never_fails) (keep_view service.now.keep ≢ None) (fail_on_view service.now.fail_on))) ending
+        (Y.Network.may_give world.now.network.now (place_view service.now.place)) (ServiceMayFail service.now.wait
+        Y.Network.never_fails) (AsksForFiles service.now) (fail_on_view service.now.fail_on))) ending
         (O.contents output.old) (O.contents output.new)) result start (E.contents errors.new)) (E.contents errors.old) }
 {
     let peers = Peers::new(world.alloc, world.explain || service.keep.is_some());
@@ -135,23 +132,38 @@ fn run_files<Y: System, O: Write, E: Write>(
     report_judgement(&judgement.fail_on, &end, errors)
 }
 
-/// Explores the session in files, and gives the exit status.
+/// Explores the session in files, and gives the exit status. What is read is noted whether an explanation is wanted or
+/// not, since the page of a refusal has one.
 fn run_explore<Y: System, O: Write, E: Write>(
     world: &World<'_, Y>,
     judgement: &Judgement<'_>,
+    page: &PageOptions<'_>,
     output: &mut O,
     errors: &mut E,
 ) -> u8
-    ensures { Explained world.now.explain (λ start. Ends (λ ending. SessionLeaves (Y.Files.file_of world.now.files.now)
-        (options_view judgement.now.names.options) judgement.now.names.spec.now (session_view judgement.now.names).1
-        (λ sources. OfNamed (fail_on_view judgement.now.fail_on)
-        (OfPage (AreFilesOf (bytes_in (Y.Files.file_of world.now.files.now)) (session_view judgement.now.names).1)
-        sources (fail_on_view judgement.now.fail_on))) ending (O.contents output.old)
-        (O.contents output.new)) result start (E.contents errors.new)) (E.contents errors.old) }
+    ensures { Explained world.now.explain (λ start. Ends (λ ending. ExplorationLeaves
+        (Y.Files.file_of world.now.files.now) (options_view judgement.now.names.options)
+        (fail_on_view judgement.now.fail_on) (page_view page.now) judgement.now.names.spec.now
+        (session_view judgement.now.names).1 ending (O.contents output.old) (O.contents output.new)) result start
+        (E.contents errors.new)) (E.contents errors.old) }
 {
     let gate = LevelGate::new(world.files);
-    let end = explore_files(world, judgement, &gate, output);
-    let text = judgement_text(world, judgement, gate.widest(), &end);
+    let files = judgement
+        .names
+        .streams
+        .len()
+        .saturating_add(page.notes.len());
+    let notes = Notes::for_streams(world.alloc, files);
+    let world = World::<'_, Y> {
+        rt: world.rt,
+        files: world.files,
+        network: world.network,
+        alloc: world.alloc,
+        explain: world.explain,
+        notes: &notes,
+    };
+    let end = explore_files(&world, judgement, page, &gate, output);
+    let text = exploration_text(&world, judgement, page, gate.widest(), &end);
     write_explanation(world.explain, &text, errors);
     report_judgement(&judgement.fail_on, &end, errors)
 }
@@ -218,7 +230,9 @@ fn run_arguments<Y: System, I: ByteSource + Drop, O: Write, E: Write>(
             run_draw(world, report, &scope, &names, output, errors)
         }
         Ok(Request::Serve(service)) => { run_service(world, &service, output, errors) }
-        Ok(Request::Explore(judgement)) => { run_explore(world, &judgement, output, errors) }
+        Ok(Request::Explore(judgement, page)) => {
+            run_explore(world, &judgement, &page, output, errors)
+        }
         Ok(Request::Test(test)) => { run_test(world, &test, output, errors) }
         Err(error) => report_parser_error(&error, output, errors),
     }
@@ -238,9 +252,9 @@ fn without_first(arguments: &[String]) -> &[String]
 /// parsed: `judge`, with the names of the files of a session document and one stream or more, judges these and writes
 /// their report to `output`; `check`, with the names of the files of a session document, a report and one stream or
 /// more, checks that report and writes what is found to `output`; `draw`, with the same names, draws that report and
-/// writes the picture to `output`; `serve`, with the name of a session document's file and a port, judges streams that
+/// writes the picture to `output`; `serve`, with the name of a session document's file and a place, judges streams that
 /// come by connections; `explore`, with the names of `judge`, judges these and writes the page on which their run is
-/// explored, or the report of a refusal, to `output`; these three answer predicates beyond the width where they are
+/// explored, or the page of a refusal, to `output`; these three answer predicates beyond the width where they are
 /// decided, and fail on answers, if that is asked for; `test`, with the names of folders with recorded runs, judges
 /// each and writes to `output` which of them are not as wished; the help that they ask for is written to `output`, and
 /// what is wrong with them to `errors`. `errors` also has one line for each fault, and before it an explanation if one

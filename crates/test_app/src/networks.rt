@@ -1,5 +1,5 @@
 //! A network that is made up.
-use pd_cli::Network;
+use pd_cli::{Network, Place};
 use std::io;
 use std::io::{Error, ErrorKind, Read, Write};
 use std::sync::atomic::{AtomicU64, Ordering};
@@ -30,11 +30,11 @@ impl Write for Peer {
 /// Connections that are made up.
 #[derive(Drop)]
 pub(crate) struct Scripted {
-    /// What the connections to port 1 send, one after the other; then none can be accepted.
+    /// What the connections to port 1 or to a socket send, one after the other; then none can be accepted.
     streams: &'static [&'static str],
     /// How many of them were accepted.
     accepted: AtomicU64,
-    /// Whether connections to other ports can be accepted.
+    /// Whether connections to other places can be accepted.
     has_watchers: bool,
 }
 
@@ -62,8 +62,19 @@ impl Network for Scripted {
 
     ghost never_fails = { false };
 
-    fn bind_port(&self, port: u16) -> io::Result<u16> {
-        Ok(port)
+    /// A free port is port 1, and so is a socket, but that of watchers, which is port 2.
+    fn bind(&self, place: &Place<'_>) -> io::Result<u16> {
+        match place {
+            Place::Port(_, port) => Ok((*port).max(1)),
+            Place::Socket(path) => {
+                let is_watchers = path.as_bytes().ends_with(b".watchers");
+                Ok(if is_watchers { 2 } else { 1 })
+            }
+        }
+    }
+
+    fn port_of(&self, listener: &u16) -> Option<u16> {
+        Some(*listener)
     }
 
     fn next_connection(&self, listener: &u16, _end: Option<Instant>) -> io::Result<Option<Peer>> {

@@ -139,8 +139,8 @@ const OUTPUTS: [(&str, &[&str], u8, &str, bool); 14] = [
         "garbage that is explored",
         &["explore", "garbage", "a", "b"],
         REFUSED,
-        "refused spec json\n",
-        true,
+        "<!doctype html>",
+        false,
     ),
     (
         "a server",

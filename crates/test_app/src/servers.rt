@@ -1,4 +1,5 @@
-//! Streams and watchers that can't be accepted, watchers that take nothing, and files that can't be flushed or named.
+//! Streams and watchers that can't be accepted, watchers that take nothing, and files that can't be flushed or named,
+//! of a session or of a port.
 use super::networks::Scripted;
 use super::runs::{FAILED, REFUSED, SUCCESS, run_to};
 use super::sinks::AMPLE;
@@ -33,7 +34,8 @@ const SERVED: [(&str, &[&str], u8, &str, &str); 7] = [
 
 /// Command lines of a server, and whether watchers can connect. Watchers that take nothing, watchers that can't be
 /// accepted, and workers change nothing.
-const WATCHED: [(bool, &[&str]); 4] = [
+const WATCHED: [(bool, &[&str]); 5] = [
+    (true, &["serve", "spec", "--socket", "s", "--watchers", "2"]),
     (false, &["serve", "spec", "--port", "1", "--watchers", "0"]),
     (
         true,
@@ -105,6 +107,26 @@ fn a_session_is_kept_if_its_files_can_be_flushed_and_named(rt: HostRuntime) -> R
             ran.is(status, text.as_bytes(), line.as_bytes()),
             "{folder}"
         );
+    }
+    Ok(())
+}
+
+/// Files of a port, with the status, the report, and what is written on standard error.
+const PORT_FILES: [(&str, u8, &str, &str); 3] = [
+    ("port", SUCCESS, REPORT, ""),
+    ("unflushed", FAILED, "", "monitor: write\n"),
+    ("unnamed", FAILED, "", "monitor: write\n"),
+];
+
+#[test]
+fn streams_are_accepted_if_the_file_of_the_port_can_be_flushed_and_named(
+    rt: HostRuntime,
+) -> Result<(), Fail> {
+    for (file, status, text, line) in PORT_FILES {
+        let network = Scripted::new(&[OF_A, OF_B], false);
+        let words = ["serve", "spec", "--port", "0", "--port-file", file];
+        let ran = run_to(&rt, rt.alloc(), &network, &words, AMPLE, AMPLE)?;
+        assert!(rt; ran.is(status, text.as_bytes(), line.as_bytes()), "{file}");
     }
     Ok(())
 }

@@ -113,4 +113,8 @@ impl FileSource for Files {
         }
         Ok(())
     }
+
+    fn remove(&self, _name: &str) -> io::Result<()> {
+        Ok(())
+    }
 }

@@ -1,21 +1,11 @@
--- A judgement of files that is named asks to explore it.
-use Rattle.std.proofs.Common.{codes, inr, refl, subst, Option}
-use Rattle.clap.specs.Matches.{found_of}
-use Rattle.clap.specs.Walk.{rows_of}
-use Rattle.app_arguments.specs.Arguments.{of_explore}
-use Rattle.app_arguments.specs.Views.{FindsJudgement}
-use Rattle.app_arguments.specs.declared.request.Judgement.{Judgement}
-use Rattle.app_arguments.proofs.FileJudgements.{unclear_judgement}
+-- Without a judgement of files nothing is named.
+use Rattle.app_arguments.specs.Views.{rows_in}
+use Rattle.app_arguments.proofs.Requests.{explore_lacks, no_judgement}
 use Rattle.app_arguments.proofs.arguments.explore_request.Goals as goal
 
 pub returns-in_default : goal.returns-in_default
-returns-in_default c arguments taken are =
-    let rows = rows_of (found_of c.args.matches.now) in
-    unclear_judgement (codes "explore") arguments rows (inr (inr (inr refl))) (inr (inr refl)) are
-    (subst (λ (found : Option Judgement). FindsJudgement rows found) c.in_default.is c.in_ok-judgement.ensures)
-
-pub returns : goal.returns
-returns c arguments taken are =
-    let rows = rows_of (found_of c.args.matches.now) in
-    of_explore rows _ _ _ _ taken are
-    (subst (λ (found : Option Judgement). FindsJudgement rows found) c.in-Some.is c.in_ok-judgement.ensures)
+returns-in_default c =
+    let rows = rows_in c.args.matches.now in
+    explore_lacks rows (λ options fail_on page document streams names.
+    no_judgement rows c.in_ok-judgement.field-0 c.in_ok-judgement.ensures c.in_default.is document streams options
+    fail_on names.0)

@@ -4,8 +4,7 @@ use Rattle.std.specs.Prelude.{IfErr, IsErrAnd, Result}
 use Rattle.clap.specs.Values.{kind_of}
 use Rattle.clap.specs.declared.error.Error.{Error}
 use Rattle.clap.specs.declared.error.kind.ErrorKind.TheVariants.{OutOfMemory}
-use Rattle.app_arguments.specs.Arguments.{IsErrorOf}
-use Rattle.app_arguments.specs.Views.{IsAskedIf}
+use Rattle.app_arguments.specs.Views.{IsAskedIf, IsErrorOf}
 use Rattle.app_arguments.specs.declared.request.Request.{Request}
 use Rattle.app_arguments.proofs.Parsed.{error_found, program_fault, program_matches, program_taken, unclear_found}
 use Rattle.app_arguments.proofs.arguments.request_by.Goals as goal

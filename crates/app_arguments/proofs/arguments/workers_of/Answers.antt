@@ -1,20 +1,10 @@
--- The number of workers is that of the text that the parser's rows have.
-use Rattle.std.proofs.Common.{codes, subst}
-use Rattle.clap.specs.Matches.{found_of}
-use Rattle.clap.specs.Walk.{rows_of}
-use Rattle.app_arguments.specs.Arguments.{IsWorkers}
-use Rattle.app_arguments.proofs.Numbers.{one_number, workers_named}
+-- Without a number there is none.
+use Rattle.std.proofs.Common.{codes}
+use Rattle.app_arguments.specs.Views.{rows_in}
+use Rattle.app_arguments.proofs.Numbers.{no_number}
 use Rattle.app_arguments.proofs.arguments.workers_of.Goals as goal
 
-pub returns-in_default-clause-none : goal.returns-in_default-clause-none
-returns-in_default-clause-none c none n (named, in_range) = c.number_of.ensures.none c.in_default.is n named
-
-pub returns-clause-some : goal.returns-clause-some
-returns-clause-some c =
-    workers_named (rows_of (found_of c.args.matches.now)) c.in-Some.number c.in-Some.ensures.some c.of.result
-    c.of.ensures.same c.of.ensures.in_range
-
-pub returns-clause-none : goal.returns-clause-none
-returns-clause-none c none n (named, in_range) =
-    c.of.ensures.none none (subst IsWorkers (one_number (rows_of (found_of c.args.matches.now)) (codes "WORKERS") n
-    c.in-Some.number named c.in-Some.ensures.some) in_range)
+pub returns-in_default : goal.returns-in_default
+returns-in_default c n names =
+    no_number (rows_in c.args.matches.now) (codes "WORKERS") c.number_of.result c.number_of.ensures c.in_default.is n
+    names.0

@@ -15,12 +15,12 @@ loop-place-preserved g c =
     λ found. g.N.Connection.ByteSource.has_ended found.source.source ≡ false in
     record {
       count = ap length pushed ∙ (length_push held stream ∙ ap (λ (n : ℕ). n + 1) c.loop-place.invariant.count);
-      given = λ port on.
-          subst (All (λ found. g.N.Network.may_give c.args.host.now.network.now port
+      given = λ at on.
+          subst (All (λ found. g.N.Network.may_give c.args.host.now.network.now at
           (g.N.Connection.ByteSource.left found.source.source))) (sym pushed)
-          (All-push (λ found. g.N.Network.may_give c.args.host.now.network.now port
-          (g.N.Connection.ByteSource.left found.source.source)) held stream (c.loop-place.invariant.given port on)
-          (c.in-Ok.ensures.given port on));
+          (All-push (λ found. g.N.Network.may_give c.args.host.now.network.now at
+          (g.N.Connection.ByteSource.left found.source.source)) held stream (c.loop-place.invariant.given at on)
+          (c.in-Ok.ensures.given at on));
       unended = subst (All Open) (sym pushed)
           (All-push Open held stream c.loop-place.invariant.unended c.in-Ok.ensures.open);
     }

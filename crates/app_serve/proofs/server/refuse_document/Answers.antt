@@ -1,9 +1,10 @@
 -- A refused document has no streams.
-use Rattle.std.proofs.Common.{◌≡◌, ◌≢◌, [], ◌∙◌, None, false, subst, sym}
+use Rattle.std.proofs.Common.{◌≡◌, [], ◌∙◌, false, subst, sym}
 use Rattle.def_judgement.specs.Headline.{is_judged}
 use Rattle.pd_report.specs.Views.{report_view}
 use Rattle.app_arguments.specs.Statuses.{Ending, OfConnections, ServiceMayFail}
 use Rattle.judge_session.specs.Inquiries.{inquiry_view}
+use Rattle.app_serve.specs.Kept.{WritesFiles}
 use Rattle.app_serve.proofs.Accepted.{accepted_of_refused, refused_outcome, service_faults, service_of_judgement, service_outcome}
 use Rattle.app_host.proofs.NamedPredicates.{refused_unless_memory}
 use Rattle.app_host.specs.Faults.{judgement_ending}
@@ -11,17 +12,18 @@ use Rattle.app_host.specs.FileSources.{ReadLeaves}
 use Rattle.app_serve.proofs.server.refuse_document.Goals as goal
 
 pub returns-clause-written : goal.returns-clause-written
-returns-clause-written g c port fail_on wait keep =
+returns-clause-written g c place fail_on wait keep port_file =
     let document = inquiry_view c.args.inquiry in
-    let G = g.Y.Network.Network.may_give c.args.host.now.network.now port in
+    let G = g.Y.Network.Network.may_give c.args.host.now.network.now place in
     let refused = refused_unless_memory document c.args.fault.now
     (sym c.is_out_of_memory.ensures ∙ c.if-is_out_of_memory.false) c.requires in
-    subst (λ (e : Ending). ReadLeaves (OfConnections G (ServiceMayFail wait g.Y.Network.Network.never_fails) (keep ≢
-    None)
-    fail_on document) e (g.O.Write.contents c.args.output.now) (g.O.Write.contents c.judge_no_streams.new.output))
+    subst (λ (e : Ending). ReadLeaves (OfConnections G (ServiceMayFail wait g.Y.Network.Network.never_fails)
+    (WritesFiles keep port_file) fail_on document) e (g.O.Write.contents c.args.output.now)
+    (g.O.Write.contents c.judge_no_streams.new.output))
     (sym (c.service_end.ensures.ending fail_on))
-    (service_of_judgement fail_on document G [] (ServiceMayFail wait g.Y.Network.Network.never_fails) (keep ≢ None)
-    (g.O.Write.contents c.args.output.now) (g.O.Write.contents c.judge_no_streams.new.output)
+    (service_of_judgement fail_on document G [] (ServiceMayFail wait g.Y.Network.Network.never_fails)
+    (WritesFiles keep port_file) (g.O.Write.contents c.args.output.now)
+    (g.O.Write.contents c.judge_no_streams.new.output)
     (accepted_of_refused document G refused.0 c.one_document.ensures.not_refused refused.1)
     (judgement_ending fail_on c.judge_no_streams.result) (c.judge_no_streams.ensures.written fail_on))
 

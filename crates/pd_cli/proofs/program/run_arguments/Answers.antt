@@ -4,22 +4,7 @@ use Rattle.pd_cli.proofs.Explanations.{unexplained}
 use Rattle.clap.specs.Values.{kind_of}
 use Rattle.app_arguments.specs.Views.{IsAsked}
 use Rattle.pd_cli.proofs.ParserEnds.{error_as_asked}
-use Rattle.app_arguments.proofs.ServicePorts.{port_of_service}
 use Rattle.pd_cli.proofs.program.run_arguments.Goals as goal
-
-pub run_service-requires-clause-some : goal.run_service-requires-clause-some
-run_service-requires-clause-some g c _ _ =
-    let port = port_of_service (map (λ argument. argument.bytes.items) c.args.arguments.now) c.in-Ok-Serve.service
-    (subst (IsAsked (map (λ argument. argument.bytes.items) c.args.arguments.now)) c.in-Ok-Serve.field-0-is
-    c.in-Ok-Serve.ensures.asked) in
-    port.0
-
-pub run_service-requires-clause-port : goal.run_service-requires-clause-port
-run_service-requires-clause-port g c _ _ =
-    let port = port_of_service (map (λ argument. argument.bytes.items) c.args.arguments.now) c.in-Ok-Serve.service
-    (subst (IsAsked (map (λ argument. argument.bytes.items) c.args.arguments.now)) c.in-Ok-Serve.field-0-is
-    c.in-Ok-Serve.ensures.asked) in
-    port.1
 
 pub returns-in-Ok-Judge : goal.returns-in-Ok-Judge
 returns-in-Ok-Judge g c = record {

@@ -1,0 +1,165 @@
+//! What the program's help says, and what is wanted of arguments.
+
+/// What the program's help says of it.
+pub(crate) const ABOUT: &str =
+    "Judges predicates on a distributed computation. The command `judge` reads a session document, and one stream of \
+events for each process, from files. With no command they are read from the standard input, as one bundle. \
+A report is written to the standard output. The command `check` checks the evidence in such a report, and `draw` \
+draws it. \
+The command `serve` judges streams that processes send over TCP or a Unix socket while they run, `explore` writes a \
+page on which a run is explored, and `test` says of many recorded runs which are not as wished.";
+
+/// What the program's help ends with.
+pub(crate) const AFTER: &str = "\
+With --explain anywhere in the arguments the answers, a refusal and whatever fails are explained on the standard \
+error; in a terminal, or with MONITOR_EXPLAIN=1 in the environment, it is so without that.
+
+Status:
+  0  The session is judged, and no condition of --fail-on is met; all tested runs pass; a check finds nothing bad; the \
+picture, the page or the help is written
+  1  The session is refused; a tested run could not be judged, and none fails; a check finds something bad, or what \
+stands against the picture
+  2  The arguments are refused, or name a predicate or evidence that isn't there
+  3  A file can't be opened or read, a port can't be bound, a stream can't be accepted or doesn't come in time, or the \
+output or what is to be kept can't be written
+  4  Memory runs out
+  5  The session is judged, and a condition of --fail-on is met; a tested run fails";
+
+/// What is wanted of a list of conditions.
+pub(crate) const LIST_USAGE: &str =
+    "the list after --fail-on has to be one or more of possibly, possibly-no, definitely, definitely-no and unknown, \
+each alone or as NAME:possibly of the predicate NAME, with a comma between each two";
+
+/// What is wanted of the word for a kind of evidence.
+pub(crate) const KIND_USAGE: &str = "the word after --evidence has to be possibly or definitely";
+
+/// What is wanted of the word for a format.
+pub(crate) const FORMAT_USAGE: &str = "the word after --format has to be text or json";
+
+/// What is wanted of the columns.
+pub(crate) const EXTENT_USAGE: &str = "--from and --all can't be given together";
+
+/// What the help says of `judge`.
+pub(crate) const JUDGE_ABOUT: &str = "Judges predicates on a computation that is recorded in files";
+
+/// What the help of `judge` ends with.
+pub(crate) const JUDGE_AFTER: &str =
+    "A report is written to the standard output. The status is 0 if the session is judged, 1 if it is refused, \
+also because a stream can't be read, 2 if the arguments are refused, 3 if a file can't be opened, the document \
+can't be read or the output can't be written, and 4 if memory runs out.\n\n\
+With --fail-on the status is 5 if the session is judged and a predicate meets a condition of LIST, which is one or \
+more of these, with a comma between each two. After NAME: a condition is asked of the predicate NAME alone; if there \
+is none, the status is 2. The report is the same.\n  \
+possibly       the answer to possibly is yes\n  \
+possibly-no    it is no\n  \
+definitely     the answer to definitely is yes\n  \
+definitely-no  it is no\n  \
+unknown        one of the two answers is unknown\n\n\
+With --format json the report is one line with a JSON object, for programs, in place of its lines; its field `report` \
+has these.\n\n\
+An answer is unknown where a level of the lattice has more cuts than the document's width. With --beyond-width \
+predicates that name at most two processes are answered all the same and, as far as docs/SPECIFICATION.md says, those \
+of which each comparison names one process; and whether an `or` of such predicates, or most predicates with one sum \
+over several processes in each term, possibly holds; and mostly whether any other definitely holds.\n\n\
+The formats are described in docs/SPECIFICATION.md. An example, at the top of the repository:\n  \
+crates/monitor/out/monitor judge examples/ten-lines/session.json examples/ten-lines/left.stream \
+examples/ten-lines/right.stream";
+
+/// What is wanted of the place of a server.
+pub(crate) const PLACE_USAGE: &str =
+    "either --port or --socket has to be given; --bind wants an IP address and --port; \
+port 0 wants --port-file, and --socket has none";
+
+/// What the help says of `check`.
+pub(crate) const CHECK_ABOUT: &str =
+    "Checks whether the cuts and paths in a report show what they are printed for";
+
+/// What the help of `check` ends with.
+pub(crate) const CHECK_AFTER: &str =
+    "What is found is written to the standard output. The status is 0 if nothing in it is bad, 1 if something is, 2 if \
+the arguments are refused, 3 if a file can't be opened or read or the output can't be written, and 4 if memory runs \
+out.\n\n\
+The formats are described in docs/SPECIFICATION.md. An example, at the top of the repository:\n  \
+crates/monitor/out/monitor check examples/ten-lines/session.json examples/ten-lines/report \
+examples/ten-lines/left.stream examples/ten-lines/right.stream";
+
+/// What the help says of `draw`.
+pub(crate) const DRAW_ABOUT: &str =
+    "Draws a computation with the cut or the observation that a report shows of a predicate";
+
+/// What the help of `draw` ends with.
+pub(crate) const DRAW_AFTER: &str =
+    "A picture is written to the standard output, as SVG. With a cut the events are numbered in the order of an \
+observation through it. At most 24 columns are drawn, around the evidence, if nothing else is asked for. Of a session \
+that is refused for a causal cycle, as the report says, the run is drawn with its cycle marked. The report is read and \
+held against the document and the streams as `check` does. The status is 0 if the picture is written, 1 if something \
+that a check finds stands against it, which is then written to the standard error, 2 if the arguments are refused or \
+there is no predicate of the name, or no evidence of the kind, that is asked for, 3 if a file can't be opened or read \
+or the output can't be written, and 4 if memory runs out.\n\n\
+The formats are described in docs/SPECIFICATION.md. An example, at the top of the repository:\n  \
+crates/monitor/out/monitor draw examples/ten-lines/session.json examples/ten-lines/report \
+examples/ten-lines/left.stream examples/ten-lines/right.stream > picture.svg";
+
+/// What the help says of `serve`.
+pub(crate) const SERVE_ABOUT: &str =
+    "Judges predicates on a computation whose processes send their events by connections";
+
+/// What the help of `serve` ends with.
+pub(crate) const SERVE_AFTER: &str =
+    "As many connections to the port, or to the socket, as the document has processes are the streams. A report \
+is written to the standard output once all of them have ended and all watchers were answered. The status is 0 if \
+the session is judged, 1 if it is refused, 2 if the arguments are refused, 3 if the document can't be read, a port or \
+a socket can't be bound, a stream can't be accepted or the output can't be written, and 4 if memory runs out.\n\n\
+Without --bind only programs of this machine can connect to the port. With it whoever reaches the address can: nobody \
+is asked who they are, so give it a private network alone. To the socket programs of the same user can connect.\n\n\
+With --wait the status is 3 if not all streams have connected so many seconds after the document was read.\n\n\
+With --keep the status is 3 if something of the session can't be kept, as in a folder that has files already; nothing \
+is ever written over.\n\n\
+With --fail-on the status may be 5, as that of `judge`, whose help says what LIST is.\n\n\
+An answer is unknown where a level of the lattice has more cuts than the document's width. With --beyond-width \
+predicates that name at most two processes are answered all the same and, as far as docs/SPECIFICATION.md says, those \
+of which each comparison names one process; and whether an `or` of such predicates, or most predicates with one sum \
+over several processes in each term, possibly holds; and mostly whether any other definitely holds.\n\n\
+The formats are described in docs/SPECIFICATION.md. An example, at the top of the repository:\n  \
+crates/monitor/out/monitor serve examples/live/session.json --port 7411\nand then, from another terminal:\n  \
+cat examples/live/left.stream > /dev/tcp/127.0.0.1/7411 & cat examples/live/right.stream > /dev/tcp/127.0.0.1/7411";
+
+/// What the help says of `explore`.
+pub(crate) const EXPLORE_ABOUT: &str =
+    "Writes a page on which a computation that is recorded in files is explored in a browser";
+
+/// What the help of `explore` ends with.
+pub(crate) const EXPLORE_AFTER: &str =
+    "The session is judged as `judge` does, and the page is written to the standard output: one file of HTML, complete \
+in itself, with the run, the predicates and the answers. Of a session that is refused for a causal cycle it shows the \
+cycle, and of one that is refused otherwise the refusal and what it means. The status is 0 if the session is \
+judged, 1 if it is refused, also because a stream can't be read, 2 if the arguments are refused or name a predicate \
+that isn't there, 3 if a file can't be opened, the document or a file of notes can't be read or the output can't be \
+written, and 4 if memory runs out.\n\n\
+With --fail-on the status may be 5, as that of `judge`, whose help says what LIST is; the page is written all the \
+same. With --never, --always and --sometimes the page says which predicates are not as wished.\n\n\
+With --notes the page shows what recorders noted of the events, in files beside the streams, and with --link a link to \
+each place in a source: PATTERN with {file} and {line} in it, as https://host/file/{file}#L{line}.\n\n\
+The formats are described in docs/SPECIFICATION.md. An example, at the top of the repository:\n  \
+crates/monitor/out/monitor explore examples/ten-lines/session.json examples/ten-lines/left.stream \
+examples/ten-lines/right.stream > run.html";
+
+/// What the help says of `test`.
+pub(crate) const TEST_ABOUT: &str =
+    "Judges recorded runs, each in a folder, and says which of them are not as wished";
+
+/// What the help of `test` ends with.
+pub(crate) const TEST_AFTER: &str =
+    "A run is a folder with the session document, session.json, and for each process NAME its stream, NAME.stream. \
+Each is judged as by `judge --beyond-width`, and has a line on the standard output, with its name and what came of \
+it:\n  \
+pass     it is as wished\n  \
+fail     an answer is not as wished, and which\n  \
+refused  the session is refused, and why\n  \
+unread   a file can't be opened or read, and which\n  \
+unnamed  the document lacks a predicate that is wished for, and which\n\n\
+Then come the numbers of runs, and once more the first lines of those that don't pass. The status is 0 if all runs \
+pass, 5 if one fails, or else 1 if one could not be judged, 2 if the arguments are refused, 3 if the output can't be \
+written, and 4 if memory runs out.\n\n\
+The formats are described in docs/SPECIFICATION.md. An example, at the top of the repository:\n  \
+crates/monitor/out/monitor test examples/redis-lock examples/redis-lock-fenced";

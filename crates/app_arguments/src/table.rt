@@ -1,0 +1,546 @@
+//! The table of the program's commands: what each takes, and what its help says of it.
+ghost use Rattle.app_arguments.specs.Table.{asking, beyond_width, check_arguments, column_number_limit, draw_arguments, explain, explore_arguments, judge_arguments, option, placed, port_limit, serve_arguments, streams, test_arguments, wait_limit, watcher_limit, workers};
+ghost use Rattle.app_arguments.specs.Views.{row_view};
+ghost use Rattle.app_arguments.specs.declared.table.ArgumentKind.TheVariants as kinds;
+ghost use Rattle.def_format.specs.Limits.{width_limit, worker_limit};
+ghost use Rattle.std.specs.Prelude.{◌≡◌, Some, codes, map};
+
+use def_format::{WIDTH_LIMIT, WORKER_LIMIT};
+
+/// The greatest port of streams: the next one is that of the watchers.
+pub(crate) const PORT_LIMIT: u64 = 65_534;
+
+/// The greatest number of watchers.
+pub(crate) const WATCHER_LIMIT: u64 = 64;
+
+/// The greatest number of seconds for which streams are waited: a day.
+const WAIT_LIMIT: u64 = 86_400;
+
+/// The greatest number of a column that can be asked for.
+const COLUMN_NUMBER_LIMIT: u64 = 4_294_967_295;
+
+/// How an argument is given.
+#[derive(Clone, Copy)]
+pub enum ArgumentKind {
+    /// One text, which has to be given.
+    Name,
+    /// One text or more, of which one has to be given.
+    Names,
+    /// One text.
+    Text,
+    /// A text, again and again.
+    Texts,
+    /// By its name alone.
+    Flag,
+    /// A number from the first to the second.
+    Number(u64, u64),
+}
+
+/// An argument of a command.
+#[derive(Clone, Copy)]
+pub struct Row {
+    /// What the help calls its value.
+    pub id: &'static str,
+    /// The name of an option.
+    pub long: Option<&'static str>,
+    /// Its text if it isn't given.
+    pub default: Option<&'static str>,
+    /// How it is given.
+    pub kind: ArgumentKind,
+    /// What the help says of it.
+    pub help: &'static str,
+}
+
+/// An argument that has its place among the arguments.
+fn placed(id: &'static str, kind: ArgumentKind, help: &'static str) -> Row
+    ensures { row_view result ≡ placed id.now kind }
+{
+    Row {
+        id,
+        long: None,
+        default: None,
+        kind,
+        help,
+    }
+}
+
+/// An argument that is given by its name.
+fn option(id: &'static str, name: &'static str, kind: ArgumentKind, help: &'static str) -> Row
+    ensures { row_view result ≡ option id.now name.now kind }
+{
+    Row {
+        id,
+        long: Some(name),
+        default: None,
+        kind,
+        help,
+    }
+}
+
+/// The same with this text if it isn't given.
+fn with_default(row: Row, text: &'static str) -> Row
+    ensures { row_view result ≡ record (row_view row) { default = Some text.now } }
+{
+    Row {
+        id: row.id,
+        long: row.long,
+        default: Some(text),
+        kind: row.kind,
+        help: row.help,
+    }
+}
+
+/// The session document.
+fn spec() -> Row
+    ensures { row_view result ≡ placed (codes "SPEC") kinds.Name }
+{
+    placed("SPEC", ArgumentKind::Name, "The session document")
+}
+
+/// Explanations.
+pub(crate) fn explain() -> Row
+    ensures { row_view result ≡ explain }
+{
+    option(
+        "EXPLAIN",
+        "explain",
+        ArgumentKind::Flag,
+        "Explain the answers, a refusal or what fails, on the standard error",
+    )
+}
+
+/// A width.
+fn width() -> Row
+    ensures { row_view result ≡ option (codes "WIDTH") (codes "width") (kinds.Number 1 width_limit) }
+{
+    option(
+        "WIDTH",
+        "width",
+        ArgumentKind::Number(1, WIDTH_LIMIT),
+        "How many cuts a level may have, at most 65536, in place of the document's width",
+    )
+}
+
+/// Predicates.
+fn ask() -> Row
+    ensures { row_view result ≡ option (codes "TEXT") (codes "ask") kinds.Texts }
+{
+    option(
+        "TEXT",
+        "ask",
+        ArgumentKind::Texts,
+        "A predicate in place of the document's, as TEXT or as NAME=TEXT; given again, one more. Without a name \
+the first is ask1, the second ask2",
+    )
+}
+
+/// The streams.
+fn streams() -> Row
+    ensures { row_view result ≡ streams }
+{
+    placed(
+        "STREAM",
+        ArgumentKind::Names,
+        "The streams of events, one file for each",
+    )
+}
+
+/// The number of workers.
+fn workers() -> Row
+    ensures { row_view result ≡ workers }
+{
+    with_default(
+        option(
+            "WORKERS",
+            "workers",
+            ArgumentKind::Number(1, WORKER_LIMIT),
+            "How many threads, at most 16, share the work on levels with many cuts; they change no byte of the report",
+        ),
+        "1",
+    )
+}
+
+/// What is decided whatever the width.
+fn beyond_width() -> Row
+    ensures { row_view result ≡ beyond_width }
+{
+    option(
+        "BEYOND_WIDTH",
+        "beyond-width",
+        ArgumentKind::Flag,
+        "Answer predicates whatever the width, as far as they are decided without the levels of the lattice",
+    )
+}
+
+/// Conditions.
+fn fail_on() -> Row
+    ensures { row_view result ≡ option (codes "LIST") (codes "fail-on") kinds.Text }
+{
+    option(
+        "LIST",
+        "fail-on",
+        ArgumentKind::Text,
+        "End with status 5 if an answer is one of these, as possibly or NAME:unknown, with commas between them",
+    )
+}
+
+/// The format of the report.
+fn format() -> Row
+    ensures { row_view result ≡ option (codes "FORMAT") (codes "format") kinds.Text }
+{
+    option(
+        "FORMAT",
+        "format",
+        ArgumentKind::Text,
+        "Write the report as text, in lines, or as json, in one line with one object; without it as text",
+    )
+}
+
+/// The report.
+fn report() -> Row
+    ensures { row_view result ≡ placed (codes "REPORT") kinds.Name }
+{
+    placed("REPORT", ArgumentKind::Name, "The report")
+}
+
+/// The predicate that is drawn.
+fn predicate() -> Row
+    ensures { row_view result ≡ option (codes "PREDICATE") (codes "predicate") kinds.Text }
+{
+    option(
+        "PREDICATE",
+        "predicate",
+        ArgumentKind::Text,
+        "The predicate whose evidence is drawn; without it the first one that has evidence",
+    )
+}
+
+/// The kind of evidence that is drawn.
+fn evidence() -> Row
+    ensures { row_view result ≡ option (codes "KIND") (codes "evidence") kinds.Text }
+{
+    option(
+        "KIND",
+        "evidence",
+        ArgumentKind::Text,
+        "The evidence that is drawn: possibly, a cut, or definitely, a path; without it the cut, or else the path",
+    )
+}
+
+/// The first column that is drawn.
+fn from() -> Row
+    ensures { row_view result ≡ option (codes "COLUMN") (codes "from") (kinds.Number 1 column_number_limit) }
+{
+    option(
+        "COLUMN",
+        "from",
+        ArgumentKind::Number(1, COLUMN_NUMBER_LIMIT),
+        "The first column that is drawn, of at most 24; without it those around the evidence are",
+    )
+}
+
+/// All columns.
+fn all() -> Row
+    ensures { row_view result ≡ option (codes "ALL") (codes "all") kinds.Flag }
+{
+    option("ALL", "all", ArgumentKind::Flag, "Draw all columns")
+}
+
+/// The port.
+fn port() -> Row
+    ensures { row_view result ≡ option (codes "PORT") (codes "port") (kinds.Number 0 port_limit) }
+{
+    option(
+        "PORT",
+        "port",
+        ArgumentKind::Number(0, PORT_LIMIT),
+        "The port, at most 65534, on which the streams are accepted; with --port-file 0 is any free port",
+    )
+}
+
+/// The address of the port.
+fn bind() -> Row
+    ensures { row_view result ≡ option (codes "ADDRESS") (codes "bind") kinds.Text }
+{
+    option(
+        "ADDRESS",
+        "bind",
+        ArgumentKind::Text,
+        "The IP address of the port; without it 127.0.0.1, to which programs of this machine alone connect",
+    )
+}
+
+/// The socket.
+fn socket() -> Row
+    ensures { row_view result ≡ option (codes "PATH") (codes "socket") kinds.Text }
+{
+    option(
+        "PATH",
+        "socket",
+        ArgumentKind::Text,
+        "The Unix socket, in place of a port, on which the streams are accepted; the watchers have PATH.watchers",
+    )
+}
+
+/// The file in which the port is named.
+fn port_file() -> Row
+    ensures { row_view result ≡ option (codes "PORT_FILE") (codes "port-file") kinds.Text }
+{
+    option(
+        "PORT_FILE",
+        "port-file",
+        ArgumentKind::Text,
+        "A file in which the port is named, in a line, once it is open, and in a second line the one of the watchers",
+    )
+}
+
+/// The number of watchers.
+fn watchers() -> Row
+    ensures { row_view result
+        ≡ record (option (codes "WATCHERS") (codes "watchers") (kinds.Number 0 watcher_limit)) {
+          default = Some (codes "0");
+        } }
+{
+    with_default(
+        option(
+            "WATCHERS",
+            "watchers",
+            ArgumentKind::Number(0, WATCHER_LIMIT),
+            "How many connections to the next port, at most 64, are shown how far the streams are read",
+        ),
+        "0",
+    )
+}
+
+/// How long streams are waited for.
+fn wait() -> Row
+    ensures { row_view result ≡ option (codes "SECONDS") (codes "wait") (kinds.Number 1 wait_limit) }
+{
+    option(
+        "SECONDS",
+        "wait",
+        ArgumentKind::Number(1, WAIT_LIMIT),
+        "How many seconds, at most 86400, the streams are waited for; without it they are waited for forever",
+    )
+}
+
+/// The folder in which a session is kept.
+fn keep() -> Row
+    ensures { row_view result ≡ option (codes "FOLDER") (codes "keep") kinds.Text }
+{
+    option(
+        "FOLDER",
+        "keep",
+        ArgumentKind::Text,
+        "Keep the document, the streams as they come and the report in this folder, which is made if there is none",
+    )
+}
+
+/// What is never to hold in a run that passes.
+fn never() -> Row
+    ensures { row_view result ≡ option (codes "NEVER") (codes "never") kinds.Texts }
+{
+    option(
+        "NEVER",
+        "never",
+        ArgumentKind::Texts,
+        "A run fails unless possibly is no for this predicate; given again, one more. With none of these three options \
+that is so for each predicate",
+    )
+}
+
+/// What is to hold in every observation of one.
+fn always() -> Row
+    ensures { row_view result ≡ option (codes "ALWAYS") (codes "always") kinds.Texts }
+{
+    option(
+        "ALWAYS",
+        "always",
+        ArgumentKind::Texts,
+        "A run fails unless definitely is yes for this predicate; given again, one more",
+    )
+}
+
+/// What is to hold in some observation of one.
+fn sometimes() -> Row
+    ensures { row_view result ≡ option (codes "SOMETIMES") (codes "sometimes") kinds.Texts }
+{
+    option(
+        "SOMETIMES",
+        "sometimes",
+        ArgumentKind::Texts,
+        "A run fails unless possibly is yes for this predicate; given again, one more",
+    )
+}
+
+/// What is never to hold.
+fn shown_never() -> Row
+    ensures { row_view result ≡ option (codes "NEVER") (codes "never") kinds.Texts }
+{
+    option(
+        "NEVER",
+        "never",
+        ArgumentKind::Texts,
+        "Wish that possibly is no for this predicate; given again, for one more",
+    )
+}
+
+/// What is to hold in every observation.
+fn shown_always() -> Row
+    ensures { row_view result ≡ option (codes "ALWAYS") (codes "always") kinds.Texts }
+{
+    option(
+        "ALWAYS",
+        "always",
+        ArgumentKind::Texts,
+        "Wish that definitely is yes for this predicate; given again, for one more",
+    )
+}
+
+/// What is to hold in some observation.
+fn shown_sometimes() -> Row
+    ensures { row_view result ≡ option (codes "SOMETIMES") (codes "sometimes") kinds.Texts }
+{
+    option(
+        "SOMETIMES",
+        "sometimes",
+        ArgumentKind::Texts,
+        "Wish that possibly is yes for this predicate; given again, for one more",
+    )
+}
+
+/// Files of notes.
+fn notes() -> Row
+    ensures { row_view result ≡ option (codes "NOTES") (codes "notes") kinds.Texts }
+{
+    option(
+        "NOTES",
+        "notes",
+        ArgumentKind::Texts,
+        "A file of notes on events, as recorders write them beside a stream; given again, one more",
+    )
+}
+
+/// The pattern of links.
+fn link() -> Row
+    ensures { row_view result ≡ option (codes "PATTERN") (codes "link") kinds.Text }
+{
+    option(
+        "PATTERN",
+        "link",
+        ArgumentKind::Text,
+        "A link to a note's place in a source, with {file} and {line} in it",
+    )
+}
+
+/// The folders of recorded runs.
+fn runs() -> Row
+    ensures { row_view result ≡ placed (codes "RUN") kinds.Names }
+{
+    placed(
+        "RUN",
+        ArgumentKind::Names,
+        "The recorded runs, one folder for each, with session.json and NAME.stream of each process NAME",
+    )
+}
+
+/// What `judge` takes, in the order of its help.
+pub(crate) fn judge_arguments() -> [Row; 9]
+    ensures { map row_view result ≡ judge_arguments }
+{
+    [
+        spec(),
+        explain(),
+        width(),
+        ask(),
+        streams(),
+        workers(),
+        beyond_width(),
+        fail_on(),
+        format(),
+    ]
+}
+
+/// What `check` takes, in the order of its help.
+pub(crate) fn check_arguments() -> [Row; 6]
+    ensures { map row_view result ≡ check_arguments }
+{
+    [spec(), explain(), width(), ask(), report(), streams()]
+}
+
+/// What `draw` takes, in the order of its help.
+pub(crate) fn draw_arguments() -> [Row; 10]
+    ensures { map row_view result ≡ draw_arguments }
+{
+    [
+        spec(),
+        explain(),
+        width(),
+        ask(),
+        report(),
+        streams(),
+        predicate(),
+        evidence(),
+        from(),
+        all(),
+    ]
+}
+
+/// What `serve` takes, in the order of its help.
+pub(crate) fn serve_arguments() -> [Row; 14]
+    ensures { map row_view result ≡ serve_arguments }
+{
+    [
+        spec(),
+        explain(),
+        width(),
+        ask(),
+        port(),
+        bind(),
+        socket(),
+        port_file(),
+        watchers(),
+        wait(),
+        keep(),
+        workers(),
+        beyond_width(),
+        fail_on(),
+    ]
+}
+
+/// What `explore` takes, in the order of its help.
+pub(crate) fn explore_arguments() -> [Row; 13]
+    ensures { map row_view result ≡ explore_arguments }
+{
+    [
+        spec(),
+        explain(),
+        width(),
+        ask(),
+        streams(),
+        workers(),
+        beyond_width(),
+        fail_on(),
+        shown_never(),
+        shown_always(),
+        shown_sometimes(),
+        notes(),
+        link(),
+    ]
+}
+
+/// What `test` takes, in the order of its help.
+pub(crate) fn test_arguments() -> [Row; 8]
+    ensures { map row_view result ≡ test_arguments }
+{
+    [
+        runs(),
+        explain(),
+        width(),
+        ask(),
+        workers(),
+        never(),
+        always(),
+        sometimes(),
+    ]
+}

@@ -1,0 +1,38 @@
+-- What is left where the ports can't be written into their file.
+use Rattle.std.proofs.Common.{◌≡◌, ℕ, List, Option, None, inl, inr, subst, sym}
+use Rattle.std.specs.Prelude.{◌≢◌, ◌⊎◌, Result, Err}
+use Rattle.app_host.proofs.UnreadFiles.{keeps_same}
+use Rattle.app_serve.specs.Kept.{WritesFiles}
+use Rattle.def_format.specs.Documents.{Inquiry}
+use Rattle.def_judgement.specs.Writes.{Source}
+use Rattle.app_arguments.specs.Conditions.{Condition}
+use Rattle.app_arguments.specs.Statuses.{HoldsDocument, OfConnections}
+use Rattle.app_host.specs.FileSources.{ReadLeaves}
+use Rattle.app_serve.specs.ServiceFaults.{service_ending}
+use Rattle.app_serve.specs.declared.service_fault.ServiceFault.{ServiceFault}
+use Rattle.app_serve.specs.declared.service_fault.ServiceFault.TheVariants as faults
+use Rattle.judge_session.specs.declared.fault.EngineFault.TheVariants as engine
+use Rattle.pd_report.specs.declared.report.Report.{Report}
+
+pub unfiled : (fail_on : List Condition) (document : Inquiry) (G : Source → Type 0) (MayNotServe : Type 0)
+    (keep port_file old : Option (List ℕ)) (result : Result Report ServiceFault) (fault : ServiceFault)
+    → result ≡ Err fault
+    → ((fault ≡ faults.Unkept) × (port_file ≢ None)) ⊎ (fault ≡ faults.Engine engine.Memory) → HoldsDocument document
+    → ReadLeaves (OfConnections G MayNotServe (WritesFiles keep port_file) fail_on document)
+    (service_ending fail_on result) old old
+unfiled fail_on document G MayNotServe keep port_file old result fault is (inl unkept) holds =
+    subst (λ (r : Result Report ServiceFault).
+    ReadLeaves (OfConnections G MayNotServe (WritesFiles keep port_file) fail_on document)
+    (service_ending fail_on r) old old)
+    (sym is) (subst (λ (f : ServiceFault).
+    ReadLeaves (OfConnections G MayNotServe (WritesFiles keep port_file) fail_on document)
+    (service_ending fail_on (Err f)) old old)
+    (sym unkept.0) (inr (inr unkept.1, holds, keeps_same old)))
+unfiled fail_on document G MayNotServe keep port_file old result fault is (inr memory) holds =
+    subst (λ (r : Result Report ServiceFault).
+    ReadLeaves (OfConnections G MayNotServe (WritesFiles keep port_file) fail_on document)
+    (service_ending fail_on r) old old)
+    (sym is) (subst (λ (f : ServiceFault).
+    ReadLeaves (OfConnections G MayNotServe (WritesFiles keep port_file) fail_on document)
+    (service_ending fail_on (Err f)) old old)
+    (sym memory) (keeps_same old))

@@ -1,0 +1,13 @@
+-- A predicate's place among the predicates is that among what they stand for.
+use Rattle.std.proofs.Common.{◌∙◌, sym}
+use Rattle.std.specs.Str.{bytes_eq}
+use Rattle.def_format.specs.Documents.{NamedPredicate}
+use Rattle.pd_pred.proofs.Positions.{position-map}
+use Rattle.pd_spec.specs.Named.{named_view}
+use Rattle.out_page.proofs.extra_data.predicate_named.Goals as goal
+
+pub returns : goal.returns
+returns c =
+    c.place_of.ensures
+    ∙ sym (position-map (λ (predicate : NamedPredicate). bytes_eq predicate.name c.args.name.now) named_view
+    c.args.predicates.now)
