@@ -1,0 +1,10 @@
+-- Long runs.
+pub mod Windows
+pub mod Kept
+pub mod Extensions
+pub mod Boundaries
+pub mod Views
+pub mod Reductions
+pub mod Renamed
+pub mod Laws
+pub mod Examples
