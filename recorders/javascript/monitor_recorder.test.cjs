@@ -443,13 +443,20 @@ test("async functions have their own strand as the current one", async () => {
     await sleep(1);
     Recorder.current().event({ x: 1 });
   };
-  const work = async (milliseconds) => {
-    await sleep(milliseconds);
+  let fastIsJoined;
+  const afterFast = new Promise((resolve) => (fastIsJoined = resolve));
+  const work = async (begin, name) => {
+    await begin;
     await deepBelow();
-    return milliseconds;
+    return name;
   };
-  const given = await Promise.all([recorder.strand("slow", () => work(30)), recorder.strand("fast", () => work(5))]);
-  assert.deepEqual(given, [30, 5]);
+  const [slow, fast] = [
+    recorder.strand("slow", () => work(afterFast, "slow")),
+    recorder.strand("fast", () => work(sleep(1), "fast")),
+  ];
+  assert.equal(await fast, "fast");
+  fastIsJoined();
+  assert.equal(await slow, "slow");
   assert.equal(Recorder.current(), undefined);
   recorder.end();
   assert.equal(text("slow"), whole("slow", '{"set":{"x":1}}'));
