@@ -25,18 +25,19 @@
 #include <unistd.h>
 
 /* A line with 16 settings and an id of 64 control characters has 1,301 bytes. So 10,000 of them stay below the
- * 16,777,216 bytes that monitor takes of a stream, and each below the 65,536 of a line. */
-#define LINE_ROOM 1400
+ * 16,777,216 bytes that monitor takes of a stream, and each below the 65,536 of a line, as does one of a long
+ * recording, whose id may have 1,024. */
+#define LINE_ROOM 7200
 
-_Static_assert(9 + 6 * MONITOR_ID_BYTE_LIMIT + 9 + MONITOR_VARIABLE_LIMIT * (MONITOR_NAME_BYTE_LIMIT + 24) + 3
+_Static_assert(9 + 6 * MONITOR_LONG_ID_BYTE_LIMIT + 9 + MONITOR_VARIABLE_LIMIT * (MONITOR_NAME_BYTE_LIMIT + 24) + 3
                    <= LINE_ROOM,
                "each line has room: the id and what is around it, each setting, and the end");
 
 /* A note has a text and a file, of which each byte may take six, and some fields. */
 #define NOTE_ROOM (2 * 6 * MONITOR_NOTE_BYTE_LIMIT + 256)
 
-/* A power of two, over twice the number of ids. */
-#define SLOTS 32768
+/* So many slots for ids there are at first: a power of two. */
+#define SLOTS 1024
 
 static const char ending[] = ".stream", notes_ending[] = ".notes.jsonl";
 
@@ -52,6 +53,14 @@ typedef struct {
     char *bytes;
     size_t size;
 } line_text;
+
+/* Ids: their bytes, each with a NUL, and in the slot that its hash leads to the place of one and 1, or 0. At most half
+ * of the slots are used. */
+typedef struct {
+    size_t count, size, room, slot_count;
+    char *bytes;
+    size_t *slots;
+} id_set;
 
 struct monitor_recorder {
     pthread_mutex_t lock;
@@ -69,18 +78,21 @@ struct monitor_recorder {
     /* The strands of the process, and where their streams are: in a folder, whose name ends with a slash, or where a
      * monitor listens. The lock is taken after that of a recorder, and no other one after it. */
     pthread_mutex_t family;
-    size_t strand_count;
-    monitor_recorder *strands[MONITOR_PROCESS_LIMIT - 1];
+    size_t strand_count, strand_room;
+    monitor_recorder **strands;
     char *folder;
-    int options;
+    int options; /* of a strand those of its process count */
     listener where;
     size_t variable_count;
     char variables[MONITOR_VARIABLE_LIMIT][MONITOR_NAME_BYTE_LIMIT + 1];
-    /* The ids that were sent or received, and for each hash the place of an id and 1, or 0. */
-    size_t id_count;
-    char ids[MONITOR_EVENT_LIMIT][MONITOR_ID_ROOM];
-    uint16_t slots[SLOTS];
+    id_set ids; /* that were sent or received */
 };
+
+/* Whether it is a long recording, or a strand of one. */
+static bool is_long(const monitor_recorder *recorder)
+{
+    return ((recorder->root == NULL ? recorder : recorder->root)->options & MONITOR_LONG) != 0;
+}
 
 /* The texts of lines */
 
@@ -305,7 +317,7 @@ static monitor_status write_note(monitor_recorder *recorder, const monitor_note 
     return write_to(recorder, recorder->notes, false, &line);
 }
 
-static bool is_id(const char *id)
+static bool is_id(const char *id, size_t limit)
 {
     if (id == NULL || id[0] == '\0')
         return false;
@@ -313,29 +325,74 @@ static bool is_id(const char *id)
     while (id[size] != '\0') {
         size_t step = character_size((const unsigned char *)id + size);
         size += step;
-        if (step == 0 || size > MONITOR_ID_BYTE_LIMIT)
+        if (step == 0 || size > limit)
             return false;
     }
     return true;
 }
 
-/* The slot in which the id stands, or the empty one into which it may be put. */
-static uint16_t *slot_of(monitor_recorder *recorder, const char *id)
+/* The slot in which the id stands, or the empty one into which it may be put. There are slots. */
+static size_t *slot_of(const id_set *ids, const char *id)
 {
-    uint32_t hash = 2166136261u;
+    uint64_t hash = 14695981039346656037u;
     for (const char *next = id; *next != '\0'; next++)
-        hash = (hash ^ (unsigned char)*next) * 16777619u;
-    size_t place = hash % SLOTS;
-    while (recorder->slots[place] != 0 && strcmp(recorder->ids[recorder->slots[place] - 1], id) != 0)
-        place = (place + 1) % SLOTS;
-    return &recorder->slots[place];
+        hash = (hash ^ (unsigned char)*next) * 1099511628211u;
+    size_t place = (size_t)(hash ^ hash >> 32) % ids->slot_count;
+    while (ids->slots[place] != 0 && strcmp(ids->bytes + ids->slots[place] - 1, id) != 0)
+        place = (place + 1) % ids->slot_count;
+    return &ids->slots[place];
 }
 
-static void keep_id(monitor_recorder *recorder, const char *id)
+static bool has_id(const id_set *ids, const char *id)
 {
-    strcpy(recorder->ids[recorder->id_count], id);
-    recorder->id_count++;
-    *slot_of(recorder, id) = (uint16_t)recorder->id_count;
+    return ids->slot_count > 0 && *slot_of(ids, id) != 0;
+}
+
+/* Has twice as many slots; false with errno if there is no memory. */
+static bool add_slots(id_set *ids)
+{
+    size_t slot_count = ids->slot_count == 0 ? SLOTS : 2 * ids->slot_count;
+    size_t *slots = calloc(slot_count, sizeof *slots);
+    if (slots == NULL)
+        return false;
+    free(ids->slots);
+    ids->slots = slots;
+    ids->slot_count = slot_count;
+    for (size_t place = 0; place < ids->size; place += strlen(ids->bytes + place) + 1)
+        *slot_of(ids, ids->bytes + place) = place + 1;
+    return true;
+}
+
+/* Makes room for the id; false with errno if there is no memory. */
+static bool reserve_id(id_set *ids, const char *id)
+{
+    size_t size = ids->size + strlen(id) + 1;
+    if (size > ids->room) {
+        char *bytes = realloc(ids->bytes, 2 * size);
+        if (bytes == NULL)
+            return false;
+        ids->bytes = bytes;
+        ids->room = 2 * size;
+    }
+    return 2 * (ids->count + 1) <= ids->slot_count || add_slots(ids);
+}
+
+/* Keeps the id, for which there is room. */
+static void keep_id(id_set *ids, const char *id)
+{
+    *slot_of(ids, id) = ids->size + 1;
+    strcpy(ids->bytes + ids->size, id);
+    ids->size += strlen(id) + 1;
+    ids->count++;
+}
+
+static void forget_ids(id_set *ids)
+{
+    int reason = errno;
+    free(ids->bytes);
+    free(ids->slots);
+    *ids = (id_set){0};
+    errno = reason;
 }
 
 static bool has_variable(const monitor_recorder *recorder, const char *name)
@@ -384,7 +441,18 @@ static pthread_mutex_t *new_lock(pthread_mutex_t *lock)
     return errno == 0 ? lock : NULL;
 }
 
-monitor_status monitor_to_descriptor(const char *process, int descriptor, monitor_recorder **made)
+/* Adds MONITOR_LONG to the options if the environment says so; false if it says what it can't. */
+static bool add_long(int *options)
+{
+    const char *text = getenv("MONITOR_LONG");
+    if (text == NULL || text[0] == '\0' || strcmp(text, "0") == 0)
+        return true;
+    *options |= MONITOR_LONG;
+    return strcmp(text, "1") == 0;
+}
+
+/* Records to what is open for writing. */
+static monitor_status over_descriptor(const char *process, int descriptor, monitor_recorder **made)
 {
     struct stat kind;
     *made = NULL;
@@ -424,10 +492,28 @@ monitor_status monitor_to_descriptor(const char *process, int descriptor, monito
     return MONITOR_RECORDED;
 }
 
-/* The same, and the descriptor is closed if it fails. */
+monitor_status monitor_to_descriptor_with(const char *process, int descriptor, int options, monitor_recorder **made)
+{
+    *made = NULL;
+    if (!is_name(process))
+        return MONITOR_PROCESS_NAME;
+    if (!add_long(&options))
+        return MONITOR_NOT_LONG;
+    monitor_status status = over_descriptor(process, descriptor, made);
+    if (status == MONITOR_RECORDED)
+        (*made)->options = options & MONITOR_LONG;
+    return status;
+}
+
+monitor_status monitor_to_descriptor(const char *process, int descriptor, monitor_recorder **made)
+{
+    return monitor_to_descriptor_with(process, descriptor, 0, made);
+}
+
+/* The same as over_descriptor, and the descriptor is closed if it fails. */
 static monitor_status over_own_descriptor(const char *process, int descriptor, monitor_recorder **made)
 {
-    monitor_status status = monitor_to_descriptor(process, descriptor, made);
+    monitor_status status = over_descriptor(process, descriptor, made);
     if (status != MONITOR_RECORDED) {
         int reason = errno;
         close(descriptor);
@@ -659,6 +745,8 @@ monitor_status monitor_to_file_with_at(const monitor_note *note, const char *pro
         return MONITOR_NO_NOTES;
     if ((options & MONITOR_AGAIN) != 0 && (options & MONITOR_REPLACE) != 0)
         return MONITOR_NOT_AGAIN;
+    if (!add_long(&options))
+        return MONITOR_NOT_LONG;
     char *folder = folder_of(path);
     if (folder == NULL)
         return MONITOR_SYSTEM;
@@ -807,11 +895,13 @@ static int connection_within(const listener *where)
     }
 }
 
-static monitor_status to_listener(const char *process, const listener *where, monitor_recorder **made)
+static monitor_status to_listener(const char *process, const listener *where, int options, monitor_recorder **made)
 {
     *made = NULL;
     if (!is_name(process))
         return MONITOR_PROCESS_NAME;
+    if (!add_long(&options) || (options & MONITOR_LONG) != 0)
+        return MONITOR_NOT_LONG;
     int connection = connection_within(where);
     monitor_status status = connection < 0 ? MONITOR_SYSTEM : over_own_descriptor(process, connection, made);
     if (status == MONITOR_RECORDED)
@@ -823,7 +913,7 @@ monitor_status monitor_to_port(const char *process, uint16_t port, double second
 {
     listener where = {.host = "127.0.0.1", .seconds = seconds};
     snprintf(where.port, sizeof where.port, "%u", (unsigned)port);
-    return to_listener(process, &where, made);
+    return to_listener(process, &where, 0, made);
 }
 
 /* Whether the text has only these signs. */
@@ -922,7 +1012,9 @@ monitor_status monitor_from_environment_with_at(const monitor_note *note, const 
     if (options < 0 || (!is_folder && (options & MONITOR_NOTES) != 0))
         return MONITOR_NO_NOTES;
     if (!is_folder)
-        return (options & MONITOR_AGAIN) != 0 ? MONITOR_NOT_AGAIN : to_listener(process, &where, made);
+        return (options & MONITOR_AGAIN) != 0 ? MONITOR_NOT_AGAIN : to_listener(process, &where, options, made);
+    if (!add_long(&options))
+        return MONITOR_NOT_LONG;
     if (mkdir(place, 0777) != 0 && errno != EEXIST)
         return MONITOR_SYSTEM;
     size_t room = strlen(place) + strlen(process) + sizeof "/.stream";
@@ -940,23 +1032,25 @@ monitor_status monitor_from_environment_with_at(const monitor_note *note, const 
 /* Whether an event may be recorded; the lock is held. One of a strand's events is kept for its end. */
 static monitor_status room_of(const monitor_recorder *recorder)
 {
-    size_t limit = recorder->root == NULL ? MONITOR_EVENT_LIMIT : MONITOR_EVENT_LIMIT - 1;
+    size_t limit = is_long(recorder) ? MONITOR_LONG_EVENT_LIMIT : MONITOR_EVENT_LIMIT;
     if (recorder->is_ended)
         return MONITOR_ENDED;
     if (recorder->is_broken)
         return MONITOR_BROKEN;
-    return recorder->events < limit ? MONITOR_RECORDED : MONITOR_EVENTS;
+    return recorder->events < limit - (recorder->root != NULL) ? MONITOR_RECORDED : MONITOR_EVENTS;
 }
 
 /* Checks the message and the variables of an event, and writes its note and its line; the lock is held. */
 static monitor_status record(const monitor_note *note, monitor_recorder *recorder, const char *field, const char *id,
                              const monitor_setting *settings, size_t count)
 {
-    if (id != NULL && !is_id(id))
+    if (id != NULL && !is_id(id, is_long(recorder) ? MONITOR_LONG_ID_BYTE_LIMIT : MONITOR_ID_BYTE_LIMIT))
         return MONITOR_ID;
-    if (id != NULL && *slot_of(recorder, id) != 0)
+    if (id != NULL && has_id(&recorder->ids, id))
         return MONITOR_ID_TWICE;
     monitor_status status = check_settings(recorder, settings, count);
+    if (status == MONITOR_RECORDED && id != NULL && !reserve_id(&recorder->ids, id))
+        status = MONITOR_SYSTEM;
     if (status == MONITOR_RECORDED)
         status = write_note(recorder, note);
     if (status != MONITOR_RECORDED)
@@ -970,7 +1064,7 @@ static monitor_status record(const monitor_note *note, monitor_recorder *recorde
     recorder->events++;
     keep_variables(recorder, settings, count);
     if (id != NULL)
-        keep_id(recorder, id);
+        keep_id(&recorder->ids, id);
     return MONITOR_RECORDED;
 }
 
@@ -1001,7 +1095,7 @@ static monitor_status send_any(const monitor_note *note, monitor_recorder *recor
     size_t number = recorder->sends;
     do {
         snprintf(made, sizeof made, "%s-%zu", recorder->process, ++number);
-    } while (*slot_of(recorder, made) != 0);
+    } while (has_id(&recorder->ids, made));
     monitor_status status = record(note, recorder, "send", made, settings, count);
     if (status == MONITOR_RECORDED) {
         recorder->sends = number;
@@ -1064,7 +1158,7 @@ static monitor_status check_strand(const monitor_recorder *root, const char *nam
     for (size_t i = 0; i < root->strand_count; i++)
         if (strcmp(root->strands[i]->process, name) == 0)
             return MONITOR_NAME_TWICE;
-    if (root->strand_count == MONITOR_PROCESS_LIMIT - 1)
+    if (root->strand_count == (is_long(root) ? MONITOR_LONG_PROCESS_LIMIT : MONITOR_PROCESS_LIMIT) - 1)
         return MONITOR_PROCESSES;
     return root->folder == NULL && root->where.host[0] == '\0' ? MONITOR_NO_PLACE : MONITOR_RECORDED;
 }
@@ -1095,11 +1189,27 @@ static int descriptor_for(const monitor_recorder *root, const char *name, int *n
     return descriptor;
 }
 
+/* Makes room for one more strand; false with errno if there is no memory. */
+static bool reserve_strand(monitor_recorder *root)
+{
+    if (root->strand_count < root->strand_room)
+        return true;
+    size_t room = root->strand_room == 0 ? MONITOR_PROCESS_LIMIT : 2 * root->strand_room;
+    monitor_recorder **strands = realloc(root->strands, room * sizeof *strands);
+    if (strands == NULL)
+        return false;
+    root->strands = strands;
+    root->strand_room = room;
+    return true;
+}
+
 /* A strand that has written its first line. */
 static monitor_status begin_strand(monitor_recorder *root, const char *name, monitor_recorder **made)
 {
     pthread_mutex_lock(&root->family);
     monitor_status status = check_strand(root, name);
+    if (status == MONITOR_RECORDED && !reserve_strand(root))
+        status = MONITOR_SYSTEM;
     if (status == MONITOR_RECORDED) {
         int notes = -1;
         int descriptor = descriptor_for(root, name, &notes);
@@ -1135,6 +1245,7 @@ static monitor_status close_files(monitor_recorder *recorder, monitor_status sta
 static monitor_status close_strand(monitor_recorder *strand, monitor_status status)
 {
     strand->is_ended = true;
+    forget_ids(&strand->ids);
     return close_files(strand, status);
 }
 
@@ -1221,6 +1332,8 @@ static monitor_status release(monitor_recorder *recorder, monitor_status status)
         pthread_mutex_destroy(&recorder->family);
         pthread_mutex_destroy(&recorder->lock);
     }
+    forget_ids(&recorder->ids);
+    free(recorder->strands);
     free(recorder->folder);
     free(recorder);
     errno = reason;
@@ -1269,6 +1382,10 @@ void monitor_abandon_at(const monitor_note *note, monitor_recorder *recorder)
     release(recorder, MONITOR_RECORDED);
 }
 
+/* What to do if a recording is over the limits of a session. */
+#define AS_A_LONG_RUN \
+    "or record it as a long run: by the option MONITOR_LONG or MONITOR_LONG=1, and reduce it by monitor_reduce.py"
+
 const char *monitor_text(monitor_status status)
 {
     switch (status) {
@@ -1276,15 +1393,19 @@ const char *monitor_text(monitor_status status)
     case MONITOR_PROCESS_NAME: return "not a name of a process";
     case MONITOR_VARIABLE_NAME: return "not a name of a variable, or one that stands twice";
     case MONITOR_VARIABLES: return "a process has at most 16 variables";
-    case MONITOR_EVENTS: return "a process has at most 10,000 events, of which a strand's last one is its end";
-    case MONITOR_ID: return "the id of a message has 1 to 64 bytes, which are UTF-8";
+    case MONITOR_EVENTS:
+        return "a process has at most 10,000 events, of which a strand's last one is its end; record fewer, "
+            AS_A_LONG_RUN;
+    case MONITOR_ID: return "the id of a message has 1 to 64 bytes, or 1,024 in a long run, which are UTF-8";
     case MONITOR_ID_TWICE: return "the process has sent or received a message with this id before";
     case MONITOR_FORK: return "the recorder belongs to the process of which this one is a fork";
     case MONITOR_BROKEN: return "an earlier line could not be written";
     case MONITOR_SYSTEM: return "the system could not open or write the recording";
     case MONITOR_ENDED: return "the strand has ended";
     case MONITOR_NAME_TWICE: return "another process of this recording has this name: give each strand one of its own";
-    case MONITOR_PROCESSES: return "a session has at most 16 processes, and a process and its strands are as many";
+    case MONITOR_PROCESSES:
+        return "a session has at most 16 processes, and a process and its strands are as many; begin fewer strands, "
+            AS_A_LONG_RUN;
     case MONITOR_NO_PLACE: return "no place for the stream of a strand: record to a file or a port by its name";
     case MONITOR_NOT_ENDED: return "not a strand that has ended: wait for it, and then join it";
     case MONITOR_WHERE:
@@ -1294,6 +1415,10 @@ const char *monitor_text(monitor_status status)
         return "an earlier incarnation still runs: what is started beside it is no later one, but a process of its own";
     case MONITOR_NOT_AGAIN:
         return "no earlier incarnation can be told: it has a file in a folder, which isn't replaced";
+    case MONITOR_NOT_LONG:
+        return "no long recording is made: MONITOR_LONG is 1 for one, and else 0 or not set; and none goes to a port or "
+               "a socket, of MONITOR_TO or not, since monitor serve judges within the limits of a session: record to a "
+               "folder, and reduce it by monitor_reduce.py";
     case MONITOR_NO_NOTES:
         return "no place for notes, which go beside a file whose name ends with .stream and to no port; MONITOR_NOTES is "
                "1 for notes, and else 0 or not set";

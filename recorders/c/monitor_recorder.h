@@ -22,6 +22,9 @@
  *     ..
  *     monitor_join(recorder, worker, MONITOR_NOTHING); // AFTER the thread has been waited for
  *
+ * A session has limits, and a recording that is over them is refused at the call. With MONITOR_LONG, or MONITOR_LONG=1
+ * in the environment, it is a long recording, of any length, which monitor_reduce.py reduces before it is judged.
+ *
  * Events have no names. With MONITOR_NOTES each has a note in left.notes.jsonl, of the line of the program that
  * recorded it, and of a text if one is given:
  *
@@ -45,6 +48,10 @@ extern "C" {
 #define MONITOR_PROCESS_LIMIT 16
 #define MONITOR_NAME_BYTE_LIMIT 32
 #define MONITOR_ID_BYTE_LIMIT 64
+/* The limits of a long recording. Ids that are made keep the limit above. */
+#define MONITOR_LONG_EVENT_LIMIT 2147483647
+#define MONITOR_LONG_PROCESS_LIMIT 4096
+#define MONITOR_LONG_ID_BYTE_LIMIT 1024
 /* At most so many bytes has a note of its text, and of its place's file: what is longer is cut. */
 #define MONITOR_NOTE_BYTE_LIMIT 1024
 /* The room that an id takes with the NUL after it. */
@@ -76,21 +83,24 @@ typedef enum {
     MONITOR_PROCESS_NAME,  /* no name: letters, digits and _, at most 32, no digit first, no word of predicates */
     MONITOR_VARIABLE_NAME, /* no name of a variable, or one that stands twice */
     MONITOR_VARIABLES,     /* a process has at most 16 variables */
-    MONITOR_EVENTS,        /* a process has at most 10,000 events, of which a strand's last one is its end */
-    MONITOR_ID,            /* an id has 1 to 64 bytes, which are UTF-8 */
+    MONITOR_EVENTS,        /* a process has at most 10,000 events, of which a strand's last one is its end; in a long
+                            * recording 2,147,483,647 */
+    MONITOR_ID,            /* an id has 1 to 64 bytes, or 1,024 in a long recording, which are UTF-8 */
     MONITOR_ID_TWICE,      /* the process has sent or received this id before */
     MONITOR_FORK,          /* the recorder belongs to the process of which this one is a fork */
     MONITOR_BROKEN,        /* an earlier line could not be written, so none is any more */
     MONITOR_SYSTEM,        /* the system refused: see errno; a part of the line may have been written */
     MONITOR_ENDED,         /* the strand has ended */
     MONITOR_NAME_TWICE,    /* the name is that of the process or of another strand of it */
-    MONITOR_PROCESSES,     /* a process and its strands are at most 16, since a session has no more processes */
+    MONITOR_PROCESSES,     /* a process and its strands are at most 16, since a session has no more processes; in a long
+                            * recording 4,096 */
     MONITOR_NO_PLACE,      /* the recorder was made for a descriptor: there is no place for the stream of a strand */
     MONITOR_NOT_ENDED,     /* what is to be joined is no strand that has ended */
     MONITOR_WHERE,         /* MONITOR_TO isn't set, or names no folder, port or socket that there can be */
     MONITOR_NO_NOTES,      /* there is no place for notes, as at a port, or MONITOR_NOTES is neither 1 nor 0 */
     MONITOR_RUNNING,       /* an earlier incarnation of the process still runs */
-    MONITOR_NOT_AGAIN      /* no earlier incarnation can be told, as of a connection or of a file that is replaced */
+    MONITOR_NOT_AGAIN,     /* no earlier incarnation can be told, as of a connection or of a file that is replaced */
+    MONITOR_NOT_LONG       /* a long recording goes to no monitor that listens, or MONITOR_LONG is neither 1 nor 0 */
 } monitor_status;
 
 /* How a file is recorded to: these, joined by |, or 0. */
@@ -104,7 +114,11 @@ enum {
      * incarnation is recorded, as a process of its own and to a file beside: of left and left.stream the second one is
      * left_2 in left_2.stream. Its first event receives the message left-ended, by which it comes after all that the
      * one before did; monitor_mend adds the send. It is MONITOR_RUNNING while the one before still runs. */
-    MONITOR_AGAIN = 4
+    MONITOR_AGAIN = 4,
+    /* It is a long recording, of up to 2,147,483,647 events in a process, 4,096 processes with the strands, and ids of
+     * 1,024 bytes. It has to be reduced by monitor_reduce.py before it is judged. MONITOR_LONG=1 in the environment
+     * says the same, to each call that makes a recorder. */
+    MONITOR_LONG = 8
 };
 
 /* Records to a new file. One that is there already is MONITOR_SYSTEM with EEXIST. */
@@ -114,15 +128,17 @@ monitor_status monitor_to_file(const char *process, const char *path, monitor_re
 monitor_status monitor_to_file_with(const char *process, const char *path, int options, monitor_recorder **made);
 
 /* Records to `monitor serve` on a port of this machine. If nobody listens there yet, it is tried again until these
- * seconds have passed. A later call waits while the monitor doesn't read. */
+ * seconds have passed. A later call waits while the monitor doesn't read. With MONITOR_LONG=1 in the environment it is
+ * MONITOR_NOT_LONG, since a long recording is reduced before it is judged. */
 monitor_status monitor_to_port(const char *process, uint16_t port, double seconds, monitor_recorder **made);
 
 /* Records to where MONITOR_TO in the environment says, so that no code changes between a test and a live session: to a
  * new file NAME.stream in a folder of this name, which is made if there is none; or to `monitor serve`, on a port of
  * this machine, of :7411 or localhost:7411, on one of another machine, of host:7411 or [fe80::1]:7411, or by a Unix
  * socket, of unix:/run/monitor.sock, for which ten seconds are waited. With MONITOR_NOTES=1 in the environment each
- * event gets a note beside the file. A connection has no place for notes, and keeps no earlier incarnation, so with one
- * notes are MONITOR_NO_NOTES, and MONITOR_AGAIN is MONITOR_NOT_AGAIN. What has a colon and no slash is no folder. */
+ * event gets a note beside the file. A connection has no place for notes, keeps no earlier incarnation, and is judged
+ * within the limits of a session, so with one notes are MONITOR_NO_NOTES, MONITOR_AGAIN is MONITOR_NOT_AGAIN, and
+ * MONITOR_LONG is MONITOR_NOT_LONG. What has a colon and no slash is no folder. */
 monitor_status monitor_from_environment(const char *process, monitor_recorder **made);
 
 /* The same, with options. */
@@ -132,6 +148,9 @@ monitor_status monitor_from_environment_with(const char *process, int options, m
  * the descriptor is closed with the recorder. Of a pipe that nobody reads any more the next
  * call says MONITOR_SYSTEM, and raises no SIGPIPE. */
 monitor_status monitor_to_descriptor(const char *process, int descriptor, monitor_recorder **made);
+
+/* The same, with MONITOR_LONG or 0. */
+monitor_status monitor_to_descriptor_with(const char *process, int descriptor, int options, monitor_recorder **made);
 
 /* Something happened in this process; these variables have these values from now on. */
 monitor_status monitor_event(monitor_recorder *recorder, const monitor_setting *settings, size_t count);

@@ -90,8 +90,8 @@ private:
  * closed or destroyed. */
 class Recorder {
 public:
-    /* Records to a new file. Options are MONITOR_NOTES, MONITOR_REPLACE and MONITOR_AGAIN; with the last one the note
-     * is that of the receipt with which a later incarnation begins. */
+    /* Records to a new file. Options are MONITOR_NOTES, MONITOR_REPLACE, MONITOR_LONG and MONITOR_AGAIN; with the last
+     * one the note is that of the receipt with which a later incarnation begins. */
     static Recorder to_file(const std::string &process, const std::string &path, int options = 0, const Note &note = {})
     {
         if (path.find('\0') != std::string::npos)
@@ -116,11 +116,13 @@ public:
         });
     }
 
-    /* Records to what is open for writing, which is closed with the recorder if this succeeds. */
-    static Recorder to_descriptor(const std::string &process, int descriptor)
+    /* Records to what is open for writing, which is closed with the recorder if this succeeds. The options are
+     * MONITOR_LONG or none. */
+    static Recorder to_descriptor(const std::string &process, int descriptor, int options = 0)
     {
-        return made(process,
-                    [&](monitor_recorder **to) { return monitor_to_descriptor(process.c_str(), descriptor, to); });
+        return made(process, [&](monitor_recorder **to) {
+            return monitor_to_descriptor_with(process.c_str(), descriptor, options, to);
+        });
     }
 
     Recorder(Recorder &&other) noexcept

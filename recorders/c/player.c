@@ -11,7 +11,7 @@
 #include <stdlib.h>
 #include <string.h>
 
-enum { WORDS = 40, THREADS = 16, ROOM = 1 << 21 };
+enum { WORDS = 40, THREADS = 20, ROOM = 1 << 21 };
 
 typedef struct {
     int number, turns;
@@ -20,6 +20,7 @@ typedef struct {
 
 static monitor_recorder *recorder;
 static int total;
+static const char *refusal = ""; /* the text of the last one */
 static const char *said; /* the text of the note of the call, if it has one */
 
 /* The recorder of the process and those of its strands, with the names by which they are called. */
@@ -108,7 +109,9 @@ static void answer_status(monitor_status status, const char *id)
         [MONITOR_PROCESSES] = "refused processes", [MONITOR_NO_PLACE] = "refused no-place",
         [MONITOR_NOT_ENDED] = "refused not-ended", [MONITOR_NO_NOTES] = "refused notes",
         [MONITOR_WHERE] = "refused place", [MONITOR_RUNNING] = "refused running",
-        [MONITOR_NOT_AGAIN] = "refused again"};
+        [MONITOR_NOT_AGAIN] = "refused again", [MONITOR_NOT_LONG] = "refused long"};
+    if (status != MONITOR_RECORDED && status != MONITOR_SYSTEM)
+        refusal = monitor_text(status);
     answer(texts[status], status == MONITOR_RECORDED ? id : "");
 }
 
@@ -199,6 +202,13 @@ static bool run(void *(*work_of)(void *), int count, int turns)
 
 static monitor_mutex door = MONITOR_MUTEX_INITIALIZER; /* the lock of which the cases tell */
 
+/* Makes a recorder to where MONITOR_TO says, which is the place of the call. */
+static monitor_status to_place(char **words, int options)
+{
+    setenv("MONITOR_TO", text_of(words[2]), 1);
+    return monitor_from_environment_with(text_of(words[1]), options, &recorder);
+}
+
 /* Makes a call that begins a recording, or ends it. The strands of a process are gone with it. */
 static bool open_or_close(char **words)
 {
@@ -214,10 +224,14 @@ static bool open_or_close(char **words)
         status = monitor_to_file_with(text_of(words[1]), text_of(words[2]), MONITOR_AGAIN, &recorder);
     } else if (strcmp(words[0], "noted-again") == 0) {
         status = monitor_to_file_with(text_of(words[1]), text_of(words[2]), MONITOR_NOTES | MONITOR_AGAIN, &recorder);
-    } else if (strcmp(words[0], "place") == 0 || strcmp(words[0], "again-at") == 0) {
-        int options = strcmp(words[0], "again-at") == 0 ? MONITOR_AGAIN : 0;
-        setenv("MONITOR_TO", text_of(words[2]), 1);
-        status = monitor_from_environment_with(text_of(words[1]), options, &recorder);
+    } else if (strcmp(words[0], "long") == 0) {
+        status = monitor_to_file_with(text_of(words[1]), text_of(words[2]), MONITOR_LONG, &recorder);
+    } else if (strcmp(words[0], "place") == 0) {
+        status = to_place(words, 0);
+    } else if (strcmp(words[0], "again-at") == 0) {
+        status = to_place(words, MONITOR_AGAIN);
+    } else if (strcmp(words[0], "long-at") == 0) {
+        status = to_place(words, MONITOR_LONG);
     } else if (strcmp(words[0], "port") == 0) {
         status = monitor_to_port(text_of(words[1]), (uint16_t)atoi(words[2]), atof(words[3]), &recorder);
     } else if (strcmp(words[0], "close") == 0) {
@@ -371,6 +385,10 @@ static void make(char **words, size_t count)
     }
     if (strcmp(words[0], "signals") == 0) {
         answer(handle_signals() ? "recorded" : "failed", "");
+        return;
+    }
+    if (strcmp(words[0], "said") == 0) {
+        answer("recorded", refusal);
         return;
     }
     if (open_or_close(words))

@@ -29,6 +29,7 @@ std::optional<Recorder> process;
 std::string process_word;
 std::map<std::string, Recorder> strands;
 std::map<std::string, monitor::Mutex> locks;
+std::string refusal; /* the text of the last one */
 std::optional<std::string> said; /* the text of the note of the call, if it has one */
 std::mutex printing;
 
@@ -49,7 +50,7 @@ const char *word_of(monitor_status status)
         {MONITOR_PROCESSES, "processes"},       {MONITOR_NO_PLACE, "no-place"},
         {MONITOR_NOT_ENDED, "not-ended"},       {MONITOR_NO_NOTES, "notes"},
         {MONITOR_WHERE, "place"},               {MONITOR_RUNNING, "running"},
-        {MONITOR_NOT_AGAIN, "again"}};
+        {MONITOR_NOT_AGAIN, "again"}, {MONITOR_NOT_LONG, "long"}};
     return words.at(status);
 }
 
@@ -204,8 +205,14 @@ bool open(const Words &words)
         process = Recorder::to_file(text_of(words[1]), text_of(words[2]), MONITOR_AGAIN);
     else if (words[0] == "noted-again")
         process = Recorder::to_file(text_of(words[1]), text_of(words[2]), MONITOR_NOTES | MONITOR_AGAIN);
-    else if (words[0] == "place" || words[0] == "again-at")
-        process = from_place(text_of(words[1]), text_of(words[2]), words[0] == "place" ? 0 : MONITOR_AGAIN);
+    else if (words[0] == "long")
+        process = Recorder::to_file(text_of(words[1]), text_of(words[2]), MONITOR_LONG);
+    else if (words[0] == "place")
+        process = from_place(text_of(words[1]), text_of(words[2]), 0);
+    else if (words[0] == "again-at")
+        process = from_place(text_of(words[1]), text_of(words[2]), MONITOR_AGAIN);
+    else if (words[0] == "long-at")
+        process = from_place(text_of(words[1]), text_of(words[2]), MONITOR_LONG);
     else if (words[0] == "port")
         process = Recorder::to_port(text_of(words[1]), static_cast<std::uint16_t>(std::stoi(words[2])),
                                     std::stod(words[3]));
@@ -298,6 +305,8 @@ void make(Recorder *recorder, const Words &words)
 {
     if (words[0] == "signals") {
         answer(handle_signals() ? "recorded" : "failed");
+    } else if (words[0] == "said") {
+        answer("recorded", refusal);
     } else if (words[0] == "in") {
         make(&called(words[1]), {words.begin() + 2, words.end()});
     } else if (words[0] == "note") {
@@ -340,6 +349,7 @@ int main()
         try {
             make(process ? &*process : nullptr, words);
         } catch (const NotRecorded &refused) {
+            refusal = refused.what();
             answer("refused", word_of(refused.status()));
         } catch (const std::system_error &) {
             answer("failed");

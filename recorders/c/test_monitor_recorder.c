@@ -121,6 +121,50 @@ static void test_files(void)
     close(full);
 }
 
+/* To a descriptor, which the environment may say too. */
+static void test_long_recordings(void)
+{
+    char id[MONITOR_LONG_ID_BYTE_LIMIT + 2] = "";
+    monitor_recorder *recorder, *strand;
+    memset(id, 'x', MONITOR_LONG_ID_BYTE_LIMIT);
+    for (int is_by_environment = 0; is_by_environment < 2; is_by_environment++) {
+        int options = is_by_environment ? 0 : MONITOR_LONG;
+        setenv("MONITOR_LONG", is_by_environment ? "1" : "", 1);
+        int descriptor = open(path_of("long"), O_WRONLY | O_CREAT, 0666);
+        RECORDED(monitor_to_descriptor_with("left", descriptor, options, &recorder));
+        RECORDED(monitor_receive(recorder, id, MONITOR_NOTHING));
+        CHECK(monitor_receive(recorder, id, MONITOR_NOTHING) == MONITOR_ID_TWICE);
+        CHECK(monitor_strand(recorder, "worker", &strand) == MONITOR_NO_PLACE);
+        RECORDED(monitor_close(recorder));
+    }
+    setenv("MONITOR_LONG", "2", 1);
+    CHECK(monitor_to_descriptor("left", 1, &recorder) == MONITOR_NOT_LONG && recorder == NULL);
+    CHECK(monitor_to_port("left", 7411, 0, &recorder) == MONITOR_NOT_LONG && recorder == NULL);
+    CHECK(monitor_to_file("not", "none/left", &recorder) == MONITOR_PROCESS_NAME && recorder == NULL);
+    unsetenv("MONITOR_LONG");
+    recorder = opened("left", "left");
+    CHECK(monitor_receive(recorder, id, MONITOR_NOTHING) == MONITOR_ID);
+    monitor_abandon(recorder);
+}
+
+/* However many there are, each is known. */
+static void test_many_ids(void)
+{
+    enum { MANY = 9000 };
+    char id[MONITOR_ID_ROOM];
+    monitor_recorder *recorder = opened("left", "left");
+    for (int i = 0; i < MANY; i++) {
+        snprintf(id, sizeof id, "%d", i);
+        RECORDED(monitor_receive(recorder, id, MONITOR_NOTHING));
+    }
+    for (int i = 0; i < MANY; i++) {
+        snprintf(id, sizeof id, "%d", i);
+        CHECK(monitor_send_as(recorder, id, MONITOR_NOTHING) == MONITOR_ID_TWICE);
+    }
+    CHECK(monitor_events(recorder) == MANY);
+    RECORDED(monitor_close(recorder));
+}
+
 static void test_a_fork_does_not_record(void)
 {
     char id[MONITOR_ID_ROOM];
@@ -503,6 +547,8 @@ int main(int count, char **arguments)
     test_refused_ids();
     test_refused_names();
     test_files();
+    test_long_recordings();
+    test_many_ids();
     test_a_fork_does_not_record();
     test_a_peer_that_is_gone();
     test_no_signal_comes();

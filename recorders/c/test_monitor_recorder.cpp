@@ -2,6 +2,8 @@
 #include "monitor_recorder.hpp"
 
 #include <cerrno>
+#include <cstdlib>
+#include <fcntl.h>
 #include <fstream>
 #include <iostream>
 #include <iterator>
@@ -163,6 +165,18 @@ void test_refusals()
     CHECK(text_of("left.stream") == "{\"process\":\"left\"}\n{\"end\":true}\n");
 }
 
+/* To a descriptor, and to where the environment leads. */
+void test_long_recordings()
+{
+    std::string id(MONITOR_LONG_ID_BYTE_LIMIT, 'x');
+    auto left = Recorder::to_descriptor("left", open("long", O_WRONLY | O_CREAT | O_TRUNC, 0666), MONITOR_LONG);
+    left.receive(id);
+    left.end();
+    setenv("MONITOR_TO", ":7411", 1);
+    CHECK(refusal([] { Recorder::from_environment("left", MONITOR_LONG); }) == MONITOR_NOT_LONG);
+    unsetenv("MONITOR_TO");
+}
+
 void test_locks()
 {
     Recorder left = opened("left");
@@ -261,7 +275,7 @@ int main(int, char **words)
     if (words[1] == nullptr || chdir(words[1]) != 0)
         return 2;
     for (auto test : {test_a_recording, test_destruction, test_moves, test_strands, test_the_order_of_destruction,
-                      test_refusals, test_locks, test_notes, test_mutexes})
+                      test_refusals, test_long_recordings, test_locks, test_notes, test_mutexes})
         test();
     return failures != 0;
 }

@@ -24,7 +24,7 @@ MOST_SECONDS = 600
 # So many calls of a row are made before their bytes are looked at.
 AT_ONCE = 100
 # A call that begins so is given the path of a file.
-MAKES_FILE = ("file ", "noted ", "replaced ", "again ", "noted-again ")
+MAKES_FILE = ("file ", "noted ", "replaced ", "again ", "noted-again ", "long ")
 
 
 def play(case, players, folder):

@@ -18,11 +18,20 @@ def see_text(text, wanted):
     see(text == wanted, f"there is\n{text}\nand not\n{wanted}")
 
 
-class Player:
-    """A player that runs. It has one recorder at a time. It is killed with the context, if it still runs then."""
+def is_answer(answer, wanted):
+    """Whether an answer is the one that is wanted, or a text with the words that it has to say."""
+    if wanted.startswith("says "):
+        return answer.startswith("recorded ") and all(word in answer for word in wanted.split()[1:])
+    return answer == wanted
 
-    def __init__(self, words):
-        self.process = subprocess.Popen(words, stdin=subprocess.PIPE, stdout=subprocess.PIPE)
+
+class Player:
+    """A player that runs, with this added to its environment. It has one recorder at a time. It is killed with the
+    context, if it still runs then."""
+
+    def __init__(self, words, environment=None):
+        self.process = subprocess.Popen(words, stdin=subprocess.PIPE, stdout=subprocess.PIPE,
+                                        env={**os.environ, **(environment or {})})
 
     def tell(self, words):
         """Tells it to make a call, and doesn't wait for the answer."""
@@ -40,8 +49,9 @@ class Player:
     def has_answered(self, words, wanted):
         """Sees that the answer to this call is the one that is wanted; False if its language has no such call."""
         answer = self.answer()
-        see(answer in (wanted, "cannot"), f"the answer to `{words[:200]}` is `{answer}`, and not `{wanted}`")
-        return answer == wanted
+        see(answer == "cannot" or is_answer(answer, wanted),
+            f"the answer to `{words[:200]}` is `{answer}`, and not `{wanted}`")
+        return answer != "cannot"
 
     def ask(self, words, wanted="recorded"):
         """Tells it to make a call, and sees that the answer is the one that is wanted."""

@@ -58,7 +58,7 @@ class Reader:
             self.last_call().notes.append([word[:-1] or self.last_call().process, rest])
         elif word == "gives":
             self.last_call().answer = f"recorded {rest}"
-        elif word in ("refused", "failed"):
+        elif word in ("refused", "failed", "says"):
             self.last_call().answer = line
         elif word == "+":
             self.go_on(rest)

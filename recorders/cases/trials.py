@@ -23,7 +23,7 @@ sys.path.append(os.path.join(judged.TOP, "cases"))
 import listening  # noqa: E402
 
 THREADS, TURNS = 6, 50
-STRANDS = 15
+STRANDS, MANY_STRANDS = 15, 17
 CONTENDING, ENTRIES = 3, 40
 SEEN = 300
 KILLS = 6
@@ -92,6 +92,56 @@ def with_strands(players, folder):
         see_text(strand.added(), f'{begin}{events}{{"send":"{name}-1"}}\n'.encode() + END)
     if judged.has_program():
         judged.Plain([stream.path, *(strand.path for strand in strands)]).see(folder)
+
+
+def with_many_strands(players, folder):
+    """a long recording with more strands than a session has processes"""
+    player, stream = players.of("left"), Stream(folder, "left")
+    player.ask(f"long left {stream.word()}")
+    player.ask(f"strands {MANY_STRANDS} 1")
+    player.ask("end")
+    names = [f"strand{number}" for number in range(MANY_STRANDS)]
+    lines = [f'{{"send":"left-{number}"}}\n' for number in range(1, MANY_STRANDS + 1)]
+    lines += [f'{{"recv":"{name}-1"}}\n' for name in names]
+    see_text(stream.added(), JOIN + "".join(lines).encode() + END)
+    for number, name in enumerate(names, 1):
+        see_text(Stream(folder, name).added(), f'{{"process":"{name}"}}\n{{"recv":"left-{number}"}}\n'
+                                               f'{{"set":{{"x":0}}}}\n{{"send":"{name}-1"}}\n'.encode() + END)
+
+
+def by_the_environment(players, folder):
+    """MONITOR_LONG, which makes a recording a long one, and is 1 or 0"""
+    stream, made = Stream(folder, "left"), quote(os.path.join(folder, "made"))
+    for word in ("2", "yes", "01"):
+        with Player(players.words, {"MONITOR_LONG": word}) as player:
+            for call in (f"file left {stream.word()}", f"long left {stream.word()}", f"place left {made}",
+                         "place left :7411", "port left 7411 0.05"):
+                player.ask(call, "refused long")
+                player.ask("said", "says MONITOR_LONG")
+    see(os.listdir(folder) == [], f"what is refused leaves {os.listdir(folder)}")
+    with Player(players.words, {"MONITOR_LONG": "0"}) as player:
+        player.ask(f"file left {stream.word()}")
+        player.ask(f"receive {'x' * 65}", "refused id")
+        player.ask("end")
+    os.unlink(stream.path)
+    stream.begin_again()
+    with Player(players.words, {"MONITOR_LONG": "1"}) as player:
+        player.ask("place left :7411", "refused long")
+        player.ask("port left 7411 0.05", "refused long")
+        player.ask(f"file left {stream.word()}")
+        see_long(player, stream)
+        player.ask(f"place left {made}")
+        see_long(player, Stream(os.path.join(folder, "made"), "left"))
+
+
+def see_long(player, stream):
+    """Sees that the recording of a player is a long one, and so that of its strand."""
+    player.ask(f"receive {'x' * 1024}")
+    player.ask("strand worker")
+    player.ask(f"in worker send-as {'y' * 1024}")
+    player.ask(f"receive {'y' * 1025}", "refused id")
+    player.ask("end")
+    see_text(stream.added(), JOIN + f'{{"recv":"{"x" * 1024}"}}\n{{"send":"left-1"}}\n'.encode() + END)
 
 
 def with_noted_threads(players, folder):
@@ -671,8 +721,9 @@ def served_with_a_strand(players, folder):
         see(report.startswith(STRANDED_REPORT), f"the report is\n{report}and not\n{STRANDED_REPORT}")
 
 
-TRIALS = [with_threads, with_strands, with_noted_threads, for_a_lock, killed_at_rest, killed_at_work,
-          killed_with_notes, killed_and_started_again, started_beside_itself, lines_as_they_are_recorded,
+TRIALS = [with_threads, with_strands, with_many_strands, by_the_environment, with_noted_threads, for_a_lock,
+          killed_at_rest, killed_at_work, killed_with_notes, killed_and_started_again, started_beside_itself,
+          lines_as_they_are_recorded,
           strand_over_a_connection, without_an_end_over_a_connection, to_a_place, to_a_socket_that_comes_later,
           killed_over_a_connection, gone, nobody_listens, listens_later, reads_late, at_the_limit_of_a_files_size,
           notes_at_the_limit_of_a_files_size, interrupted_by_signals, served, served_with_a_strand]

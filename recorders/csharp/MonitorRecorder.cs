@@ -20,9 +20,10 @@ namespace MonitorRecorder
         VariableName,
         /// <summary>A process has at most 16 variables.</summary>
         Variables,
-        /// <summary>A process has at most 10,000 events. The last one of a strand is kept for its end.</summary>
+        /// <summary>A process has at most 10,000 events, or 2,147,483,647 in a long recording. The last one of a strand
+        /// is kept for its end.</summary>
         Events,
-        /// <summary>The id of a message has 1 to 64 bytes of UTF-8.</summary>
+        /// <summary>The id of a message has 1 to 64 bytes of UTF-8, or 1,024 in a long recording.</summary>
         Id,
         /// <summary>The process has sent or received a message with this id before, so a receipt is that of a second
         /// copy.</summary>
@@ -33,7 +34,7 @@ namespace MonitorRecorder
         Broken,
         /// <summary>The name is that of the process or of another strand of it.</summary>
         NameTwice,
-        /// <summary>A process and its strands are at most 16.</summary>
+        /// <summary>A process and its strands are at most 16, or 4,096 in a long recording.</summary>
         Processes,
         /// <summary>The recorder was made for an open stream, so there is no place for a strand's.</summary>
         NoPlace,
@@ -44,7 +45,9 @@ namespace MonitorRecorder
         /// <summary>An earlier incarnation of the process still runs.</summary>
         Running,
         /// <summary>No earlier incarnation can be told, as of a connection.</summary>
-        Again
+        Again,
+        /// <summary>A long recording goes to no connection, or MONITOR_LONG is neither 1 nor 0.</summary>
+        Long
     }
 
     /// <summary>A call was refused and wrote nothing: its message says why.</summary>
@@ -99,6 +102,10 @@ namespace MonitorRecorder
     /// leaves no end line, since nobody knows what the process would have done: <c>monitor</c> refuses the stream as
     /// <c>unended</c>.
     ///
+    /// A session has limits, and a recording that is over them is refused at the call. With <c>isLong: true</c>, or
+    /// MONITOR_LONG=1 in the environment, it is a long recording, of any length, which monitor_reduce.py reduces before
+    /// it is judged.
+    ///
     /// One recorder is one order of events. A thread or task that waits by itself gets a <see cref="Strand"/>, or the
     /// order in which it came is taken for a cause.
     /// </summary>
@@ -114,11 +121,19 @@ namespace MonitorRecorder
         public const int NameByteLimit = 32;
         /// <summary>At most so many bytes of UTF-8 has the id of a message, and at least one.</summary>
         public const int IdByteLimit = 64;
+        /// <summary>At most so many events has a process of a long recording.</summary>
+        public const int LongEventLimit = 2147483647;
+        /// <summary>At most so many processes are a process of a long recording and its strands.</summary>
+        public const int LongProcessLimit = 4096;
+        /// <summary>At most so many bytes of UTF-8 has the id of a message in a long recording.</summary>
+        public const int LongIdByteLimit = 1024;
 
         private const int PortLimit = 65534;
         private const int SocketByteLimit = 107;
         private const string SocketPrefix = "unix:";
         private const string Here = "127.0.0.1";
+        private const string AsALongRun =
+            "or record it as a long run: isLong: true or MONITOR_LONG=1, and reduce it by monitor_reduce.py";
         private const string Short = "\"\\\b\f\n\r\t";
         private static readonly Regex Name = new Regex(@"\A[A-Za-z_][A-Za-z0-9_]*\z");
         /// <summary>A port: of this machine, or of another one by its name or address. One of IPv6 stands in brackets.
@@ -133,6 +148,7 @@ namespace MonitorRecorder
         private readonly string process;
         private readonly Stream output;
         private readonly Family family;
+        private readonly bool isLong;
         private readonly bool isStrand;
         private readonly HashSet<string> ids = new HashSet<string>();
         private readonly HashSet<string> names = new HashSet<string>();
@@ -144,17 +160,20 @@ namespace MonitorRecorder
         private volatile string last;
 
         /// <summary>Records to a file, a connection or whatever else takes bytes. Each line is flushed, and the stream
-        /// is closed with the recorder.</summary>
-        public Recorder(string process, Stream output) : this(process, output, null)
+        /// is closed with the recorder. With <paramref name="isLong"/> it is a long recording, as that of
+        /// <see cref="ToFile"/>.</summary>
+        public Recorder(string process, Stream output, bool isLong = false)
+            : this(process, output, IsLong(isLong), null)
         {
         }
 
-        private Recorder(string process, Stream output, Family family)
+        private Recorder(string process, Stream output, bool isLong, Family family)
         {
             this.process = CheckedProcess(process);
             this.output = output;
+            this.isLong = isLong;
             isStrand = family != null;
-            this.family = family ?? new Family(process);
+            this.family = family ?? new Family(process, isLong);
             Write("{\"process\":" + Quoted(process) + "}");
         }
 
@@ -163,18 +182,22 @@ namespace MonitorRecorder
         /// further incarnation is recorded, as a process of its own and to a file beside: of <c>left</c> and
         /// <c>left.stream</c> the second one is <c>left_2</c> in <c>left_2.stream</c>. Its first event receives the
         /// message <c>left-ended</c>, by which it comes after all that the one before did; monitor_mend adds the send.
-        /// It is refused while the one before still runs.</summary>
-        public static Recorder ToFile(string process, string path, bool again = false)
+        /// It is refused while the one before still runs. With <paramref name="isLong"/>, or MONITOR_LONG=1 in the
+        /// environment, it is a long recording: it may have 2,147,483,647 events, 4,096 processes with its strands, and
+        /// ids of 1,024 bytes, and has to be reduced by monitor_reduce.py before it is judged.</summary>
+        public static Recorder ToFile(string process, string path, bool again = false, bool isLong = false)
         {
             CheckedProcess(process);
+            isLong = IsLong(isLong);
             string first = Path.GetFullPath(path);
             string folder = Path.GetDirectoryName(first);
             Func<string, Stream> place = name => NewFile(Path.Combine(folder, name + ".stream"));
-            return again ? Incarnation(process, first, place) : Over(process, NewFile(path), null, place);
+            return again ? Incarnation(process, first, isLong, place)
+                : Over(process, NewFile(path), isLong, null, place);
         }
 
         /// <summary>Records to the first file of the process that isn't there yet.</summary>
-        private static Recorder Incarnation(string process, string first, Func<string, Stream> place)
+        private static Recorder Incarnation(string process, string first, bool isLong, Func<string, Stream> place)
         {
             int number = 1;
             while (IsThere(PathOf(first, number)))
@@ -192,7 +215,7 @@ namespace MonitorRecorder
             Recorder recorder = null;
             try
             {
-                recorder = Over(name, LockedFile(part), null, place);
+                recorder = Over(name, LockedFile(part), isLong, null, place);
                 if (number > 1)
                 {
                     recorder.Receive(before + "-ended");
@@ -274,7 +297,8 @@ namespace MonitorRecorder
 
         /// <summary>Records to <c>monitor serve</c> on a port of this machine, 1 to 65,534, which may listen up to ten
         /// seconds later; if nobody does by then, it is an <see cref="IOException"/>. A later call waits while the
-        /// monitor doesn't read.</summary>
+        /// monitor doesn't read. It is refused with MONITOR_LONG=1, since a long recording is reduced before it is
+        /// judged.</summary>
         public static Recorder ToPort(string process, int port)
         {
             return ToPort(process, port, Patience);
@@ -283,36 +307,58 @@ namespace MonitorRecorder
         /// <summary>The same, with another time to wait for somebody who listens.</summary>
         public static Recorder ToPort(string process, int port, TimeSpan patience)
         {
-            return ToAddress(process, Here, port, patience);
+            return ToAddress(process, Here, port, patience, "the port is " + port, false);
         }
 
         /// <summary>Records to the port of a host or, without a port, to a socket with this path.</summary>
-        private static Recorder ToAddress(string process, string host, int port, TimeSpan patience)
+        private static Recorder ToAddress(string process, string host, int port, TimeSpan patience, string said,
+            bool isLong)
         {
             CheckedProcess(process);
-            return Over(process, ConnectionTo(host, port, patience), null, _ => ConnectionTo(host, port, patience));
+            if (IsLong(isLong))
+            {
+                throw Refused(Reason.Long, said + ", and monitor serve judges within the limits of a session: record a "
+                    + "long run to a folder, and reduce it by monitor_reduce.py; MONITOR_LONG is 1 for one");
+            }
+            Func<string, Stream> place = _ => ConnectionTo(host, port, patience);
+            return Over(process, place(process), false, null, place);
+        }
+
+        /// <summary>Whether a recording is a long one, as this or MONITOR_LONG says.</summary>
+        private static bool IsLong(bool isLong)
+        {
+            string text = Environment.GetEnvironmentVariable("MONITOR_LONG") ?? "";
+            if (text != "" && text != "0" && text != "1")
+            {
+                throw Refused(Reason.Long,
+                    "MONITOR_LONG is \"" + text + "\", and is 1 for a long recording, or else 0");
+            }
+            return isLong || text == "1";
         }
 
         /// <summary>Records to where MONITOR_TO in the environment says, so that no code changes between a test and a
         /// live session: to a new file NAME.stream in a folder of this name, which is made if there is none; or to
         /// <c>monitor serve</c>, on a port of this machine, of <c>:7411</c> or <c>localhost:7411</c>, on one of another
         /// machine, of <c>host:7411</c> or <c>[fe80::1]:7411</c>, or by a Unix socket, of
-        /// <c>unix:/run/monitor.sock</c>. What has a colon and no slash is no folder.</summary>
-        public static Recorder FromEnvironment(string process, bool again = false)
+        /// <c>unix:/run/monitor.sock</c>. What has a colon and no slash is no folder. A connection keeps no earlier
+        /// incarnation, and is judged within the limits of a session, so <paramref name="again"/> and
+        /// <paramref name="isLong"/> are refused with one.</summary>
+        public static Recorder FromEnvironment(string process, bool again = false, bool isLong = false)
         {
-            return ToPlace(process, Environment.GetEnvironmentVariable("MONITOR_TO") ?? "", again);
+            return ToPlace(process, Environment.GetEnvironmentVariable("MONITOR_TO") ?? "", again, isLong);
         }
 
         /// <summary>The same, of a place that is given.</summary>
-        public static Recorder ToPlace(string process, string place, bool again = false)
+        public static Recorder ToPlace(string process, string place, bool again = false, bool isLong = false)
         {
             CheckedProcess(process);
             bool isSocket = place.StartsWith(SocketPrefix, StringComparison.Ordinal);
             bool hasColon = place.IndexOf(':') >= 0 && place.IndexOfAny(new[] { '/', '\\' }) < 0;
             if (!isSocket && !hasColon && place.Length > 0)
             {
+                isLong = IsLong(isLong);
                 Directory.CreateDirectory(place);
-                return ToFile(process, Path.Combine(place, process + ".stream"), again);
+                return ToFile(process, Path.Combine(place, process + ".stream"), again, isLong);
             }
             string host = isSocket ? CheckedSocket(place.Substring(SocketPrefix.Length)) : "";
             int port = isSocket ? 0 : PortIn(place, out host);
@@ -321,7 +367,7 @@ namespace MonitorRecorder
                 throw Refused(Reason.Again, "MONITOR_TO is the connection " + place
                     + ", and only a folder has the recording of an earlier incarnation");
             }
-            return ToAddress(process, host, port, Patience);
+            return ToAddress(process, host, port, Patience, "MONITOR_TO is " + place, isLong);
         }
 
         private static int PortIn(string place, out string host)
@@ -349,11 +395,12 @@ namespace MonitorRecorder
             return path;
         }
 
-        private static Recorder Over(string process, Stream output, Family family, Func<string, Stream> place)
+        private static Recorder Over(string process, Stream output, bool isLong, Family family,
+            Func<string, Stream> place)
         {
             try
             {
-                var recorder = new Recorder(process, output, family);
+                var recorder = new Recorder(process, output, isLong, family);
                 if (place != null)
                 {
                     recorder.family.Place = place;
@@ -570,13 +617,15 @@ namespace MonitorRecorder
         private sealed class Family
         {
             private readonly string process;
+            private readonly bool isLong;
             private readonly HashSet<string> names = new HashSet<string>();
             private readonly List<Recorder> strands = new List<Recorder>();
             private bool ended;
 
-            internal Family(string process)
+            internal Family(string process, bool isLong)
             {
                 this.process = process;
+                this.isLong = isLong;
                 names.Add(process);
             }
 
@@ -589,7 +638,7 @@ namespace MonitorRecorder
                 lock (names)
                 {
                     Check(name);
-                    Recorder strand = Over(name, Place(name), this, null);
+                    Recorder strand = Over(name, Place(name), isLong, this, null);
                     names.Add(name);
                     strands.Add(strand);
                     return strand;
@@ -607,10 +656,11 @@ namespace MonitorRecorder
                     throw Refused(Reason.NameTwice,
                         name + " is another process of this recording: give each strand a name of its own");
                 }
-                if (names.Count == ProcessLimit)
+                if (names.Count == (isLong ? LongProcessLimit : ProcessLimit))
                 {
-                    throw Refused(Reason.Processes, process + " and its strands are " + ProcessLimit
-                        + " processes, and a session has at most as many");
+                    throw Refused(Reason.Processes, process + " and its strands are " + names.Count + " processes, and "
+                        + (isLong ? "there can be no more"
+                            : "a session has at most as many; begin fewer strands, " + AsALongRun));
                 }
                 if (Place == null)
                 {
@@ -678,10 +728,12 @@ namespace MonitorRecorder
         private void CheckRoom()
         {
             CheckOpen();
-            if (events >= (isStrand ? EventLimit - 1 : EventLimit))
+            int limit = isLong ? LongEventLimit : EventLimit;
+            if (events >= (isStrand ? limit - 1 : limit))
             {
-                throw Refused(Reason.Events, process + " has " + events + " events: no process may have more than "
-                    + EventLimit + ", and the last one of a strand is its end");
+                throw Refused(Reason.Events, process + " has " + events + " events, and no process may have more than "
+                    + limit + ", of which the last one of a strand is its end"
+                    + (isLong ? "" : "; record fewer, " + AsALongRun));
             }
         }
 
@@ -736,7 +788,8 @@ namespace MonitorRecorder
         /// <summary>Hands the line to the system. If that fails, nothing more is written later.</summary>
         private void Write(string line)
         {
-            // With the limits above no line has over 1,400 bytes, and no stream over 14,000,000: monitor takes more.
+            // With the limits above no line has over 1,400 bytes, and no stream over 14,000,000: monitor takes more. A
+            // line of a long recording has at most 7,200.
             byte[] bytes = Utf8.GetBytes(line + "\n");
             broken = true;
             output.Write(bytes, 0, bytes.Length);
@@ -798,17 +851,17 @@ namespace MonitorRecorder
             return name;
         }
 
-        private static string CheckedId(string id)
+        private string CheckedId(string id)
         {
             try
             {
+                int limit = isLong ? LongIdByteLimit : IdByteLimit;
                 int size = id == null ? 0 : Utf8.GetByteCount(id);
-                if (size >= 1 && size <= IdByteLimit)
+                if (size >= 1 && size <= limit)
                 {
                     return id;
                 }
-                throw Refused(Reason.Id,
-                    "the id of a message has 1 to " + IdByteLimit + " bytes, and this one has " + size);
+                throw Refused(Reason.Id, "the id of a message has 1 to " + limit + " bytes, and this one has " + size);
             }
             catch (EncoderFallbackException)
             {

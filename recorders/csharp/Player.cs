@@ -18,6 +18,8 @@ internal sealed class Player
 
     private readonly Dictionary<string, Recorder> recorders = new Dictionary<string, Recorder>();
     private Recorder recorder;
+    /// <summary>The text of the last refusal.</summary>
+    private string refusal = "";
     private int total;
 
     private static void Main()
@@ -64,6 +66,7 @@ internal sealed class Player
         }
         catch (NotRecordedException error)
         {
+            refusal = error.Message;
             string reason = Regex.Replace(error.Reason.ToString(), "(?<!^)([A-Z])", "-$1");
             return "refused " + reason.ToLowerInvariant();
         }
@@ -89,6 +92,9 @@ internal sealed class Player
             case "again": Begin(words[0], ToFile(TextOf(words[0]), TextOf(words[1]), again: true)); break;
             case "place": Begin(words[0], ToPlace(TextOf(words[0]), TextOf(words[1]))); break;
             case "again-at": Begin(words[0], ToPlace(TextOf(words[0]), TextOf(words[1]), again: true)); break;
+            case "long": Begin(words[0], ToFile(TextOf(words[0]), TextOf(words[1]), isLong: true)); break;
+            case "long-at": Begin(words[0], ToPlace(TextOf(words[0]), TextOf(words[1]), isLong: true)); break;
+            case "said": return refusal;
             case "strand": recorders[words[0]] = recorder.Strand(TextOf(words[0])); break;
             case "join": recorder.Join(recorders[words[0]], SettingsOf(rest)); break;
             case "in": return MakeIn(words[0], words[1], words.Skip(2).ToArray());

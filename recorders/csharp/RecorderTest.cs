@@ -9,8 +9,8 @@ internal static class RecorderTest
 {
     private static int Main(string[] arguments)
     {
-        Action<string>[] tests = { Places, StrandsWithoutAPlace, BlocksThatAreLeft, TextsThatAreNone, LinesThatFail,
-            StrandsThatFail };
+        Action<string>[] tests = { Places, LongRecordings, StrandsWithoutAPlace, BlocksThatAreLeft, TextsThatAreNone,
+            LinesThatFail, StrandsThatFail };
         int wrong = 0;
         foreach (Action<string> test in tests)
         {
@@ -48,6 +48,18 @@ internal static class RecorderTest
         Refuses(Reason.ProcessName, () => ToPlace("left\n", folder));
         File.WriteAllText(path, "");
         Fails<IOException>(() => ToPlace("left", path));
+    }
+
+    private static void LongRecordings(string path)
+    {
+        var bytes = new MemoryStream();
+        string id = new string('x', LongIdByteLimit);
+        var left = new Recorder("left", bytes, isLong: true);
+        left.Receive(id);
+        Refuses(Reason.Id, () => left.SendAs(id + "x"));
+        left.End();
+        Same("{\"process\":\"left\"}\n{\"recv\":\"" + id + "\"}\n{\"end\":true}\n",
+            Encoding.UTF8.GetString(bytes.ToArray()));
     }
 
     private static void StrandsWithoutAPlace(string path)

@@ -21,9 +21,12 @@
 %%% What `monitor' would refuse is refused at the call: it raises the error `{not_recorded, Word, Text}', nothing is
 %%% written, and the recorder goes on as if the call hadn't been made. What the system refuses raises
 %%% `{failed, Reason}'. The formats and limits are those of docs/SPECIFICATION.md.
+%%%
+%%% A recording that is over the limits of a session is refused. With the option `long', or MONITOR_LONG=1 in the
+%%% environment, it is a long recording, of any length, which monitor_reduce.py reduces before it is judged.
 -module(monitor_recorder).
 
--export([trace/1, trace/2, set/1, join/1, stop/0]).
+-export([trace/1, trace/2, trace/3, set/1, join/1, stop/0]).
 -export([to_file/2, to_file/3, to_port/2, to_port/3, from_environment/1, from_environment/2, to_place/2, to_place/3]).
 -export([event/1, event/2, send/1, send/2, send_as/2, send_as/3, recv/2, recv/3, events/1]).
 -export([strand/2, join/2, join/3, close/1, abandon/1]).
@@ -34,6 +37,11 @@
 -define(PROCESS_LIMIT, 16).
 -define(NAME_BYTE_LIMIT, 32).
 -define(ID_BYTE_LIMIT, 64).
+-define(LONG_EVENT_LIMIT, 2147483647).
+-define(LONG_PROCESS_LIMIT, 4096).
+-define(LONG_ID_BYTE_LIMIT, 1024).
+-define(AS_A_LONG_RUN, "or record it as a long run: the option long or MONITOR_LONG=1, and reduce it by"
+                       " monitor_reduce.py").
 -define(LEAST_VALUE, (-(1 bsl 63))).
 -define(GREATEST_VALUE, ((1 bsl 63) - 1)).
 -define(CONNECT_MILLISECONDS, 10000).
@@ -42,14 +50,25 @@
 -define(SOCKET_BYTE_LIMIT, 107).
 -define(HERE, {127, 0, 0, 1}).
 -define(PLACE, "MONITOR_TO").
+-define(AS_LONG, "MONITOR_LONG").
 
 -record(recorder, {server :: pid(), name :: binary()}).
+
+%% At most so many events has a process, so many processes have a recorder and its strands, and so many bytes has an id.
+-record(limits, {
+    events = ?EVENT_LIMIT :: pos_integer(),
+    processes = ?PROCESS_LIMIT :: pos_integer(),
+    id_bytes = ?ID_BYTE_LIMIT :: pos_integer(),
+    is_long = false :: boolean()
+}).
 
 %% One stream: the lines of one process of the session.
 -record(stream, {
     name :: binary(),
     out :: {file, file:io_device()} | {socket, socket:socket()},
-    limit = ?EVENT_LIMIT :: pos_integer(),
+    limits :: #limits{},
+    %% how many events are kept for its end
+    kept = 0 :: 0 | 1,
     state = open :: open | closed | broken,
     events = 0 :: non_neg_integer(),
     made = 0 :: non_neg_integer(),
@@ -63,6 +82,7 @@
 -record(family, {
     main :: binary(),
     place :: place(),
+    limits :: #limits{},
     is_closed = false :: boolean(),
     streams :: #{binary() => #stream{}}
 }).
@@ -94,13 +114,16 @@
 -type settings() :: #{name() => integer() | boolean()} | [{name(), integer() | boolean()}].
 %% Why a call was refused.
 -type word() :: process_name | variable_name | value | variables | events | id | id_twice | ended | broken
-              | name_twice | processes | not_ended | place | running | again | process | taken.
+              | name_twice | processes | not_ended | place | running | again | long | process | taken.
 %% With `again' a file that is there is what the process recorded before it was killed and started again. Then a further
 %% incarnation is recorded, as a process of its own and to a file beside: of `left' and `left.stream' the second one is
 %% `left_2' in `left_2.stream'. Its first event receives the message `left-ended', by which it comes after all that the
 %% one before did; monitor_mend adds the send. It is refused while a process of this machine has the file of the one
-%% before open for writing, and on a system that doesn't tell by /proc which process has.
--type option() :: again.
+%% before open for writing, and on a system that doesn't tell by /proc which process has. With `long' it is a long
+%% recording: it may have 2,147,483,647 events, 4,096 processes with its strands, and ids of 1,024 bytes, and has to be
+%% reduced by monitor_reduce.py before it is judged. MONITOR_LONG=1 in the environment says the same, to each call that
+%% makes a recorder.
+-type option() :: again | long.
 
 %%% Erlang processes, recorded by what the runtime tells of their messages.
 
@@ -114,13 +137,19 @@ trace(Processes) ->
 %% there is none and in which the stream of `left' is `left.stream', or a port, as ":7411". If one is refused, those
 %% before it in the list are recorded.
 -spec trace(#{name() => pid() | atom()} | [{name(), pid() | atom()}], file:filename_all()) -> ok.
-trace(Processes, Place) when is_map(Processes) ->
-    trace(lists:sort(maps:to_list(Processes)), Place);
 trace(Processes, Place) ->
+    trace(Processes, Place, []).
+
+%% @doc The same, with `long' for a long recording.
+-spec trace(#{name() => pid() | atom()} | [{name(), pid() | atom()}], file:filename_all(), [long]) -> ok.
+trace(Processes, Place, Options) when is_map(Processes) ->
+    trace(lists:sort(maps:to_list(Processes)), Place, Options);
+trace(Processes, Place, Options) ->
     Named = [{checked_name(process_name, Name), pid_of(Process)} || {Name, Process} <- Processes],
     Absolute = absolute(Place),
+    Limits = limits_of(Options, [long]),
     Tracer = tracer(),
-    lists:foreach(fun({Name, Pid}) -> ask(Tracer, {trace, Name, Pid, Absolute}) end, Named).
+    lists:foreach(fun({Name, Pid}) -> ask(Tracer, {trace, Name, Pid, Absolute, Limits}) end, Named).
 
 pid_of(Pid) when is_pid(Pid), node(Pid) =:= node() ->
     Pid;
@@ -234,8 +263,8 @@ delivered(Delivered, Tracing) ->
     case Request of
         stop ->
             From ! {Reference, {ok, ended(Now)}};
-        {trace, Name, Pid, Place} ->
-            try added(Name, Pid, Place, Now) of
+        {trace, Name, Pid, Place, Limits} ->
+            try added(Name, Pid, Place, Limits, Now) of
                 Added -> From ! {Reference, {ok, ok}}, tracing(Added)
             catch
                 throw:Refusal -> From ! {Reference, Refusal}, tracing(Now)
@@ -243,14 +272,15 @@ delivered(Delivered, Tracing) ->
     end.
 
 %% Begins to record a process, which comes after the recorded process that started it.
-added(Name, Pid, Place, Tracing) ->
+added(Name, Pid, Place, Limits, Tracing) ->
     #tracing{streams = Streams, processes = Processes, seen = Seen} = Tracing,
     maps:is_key(Pid, Processes) andalso throw_refused(process, "~tp is recorded already", [Pid]),
-    refuse_name(Name, Streams, "this recording"),
+    refuse_name(Name, Streams, "this recording", Limits),
     erlang:is_process_alive(Pid) orelse throw_refused(process, "~tp has exited", [Pid]),
     Label = label(),
     Added = Processes#{Pid => {Name, Label}},
-    Stream = after_start(Pid, opened_stream(Name, in_folder(Name, place_of(Place))), Tracing),
+    Opened = opened_stream(Name, within(Limits, Place, in_folder(Name, place_of(Place))), Limits),
+    Stream = after_start(Pid, Opened, Tracing),
     erlang:trace_pattern(send, pattern(Added), []),
     try
         erlang:trace(Pid, true, [send, procs, {tracer, self()}])
@@ -411,11 +441,34 @@ to_file(Process, Path) ->
 %% @doc The same, with options.
 -spec to_file(name(), file:filename_all(), [option()]) -> recorder().
 to_file(Process, Path, Options) ->
-    opened(Process, in_file(filename:absname(Path), Options)).
+    Name = checked_name(process_name, Process),
+    opened(Name, in_file(filename:absname(Path), Options), limits_of(Options, [again, long])).
 
-in_file(Path, []) -> {file, Path};
-in_file(Path, [again | _]) when is_binary(Path) -> {again, Path};
-in_file(Path, Options) -> in_file(unicode:characters_to_binary(Path), Options).
+in_file(Path, Options) ->
+    case lists:member(again, Options) of
+        true -> {again, unicode:characters_to_binary(Path)};
+        false -> {file, Path}
+    end.
+
+%% The limits of a recording that is a long one if the options or MONITOR_LONG say so.
+limits_of(Options, Known) ->
+    lists:all(fun(Option) -> lists:member(Option, Known) end, Options) orelse error(badarg),
+    Text = os:getenv(?AS_LONG, ""),
+    lists:member(Text, ["", "0", "1"])
+        orelse refuse(long, "~ts is ~tp, and is 1 for a long recording, or else 0", [?AS_LONG, Text]),
+    case Text =:= "1" orelse lists:member(long, Options) of
+        true -> #limits{events = ?LONG_EVENT_LIMIT, processes = ?LONG_PROCESS_LIMIT, id_bytes = ?LONG_ID_BYTE_LIMIT,
+                        is_long = true};
+        false -> #limits{}
+    end.
+
+%% The place, if a recording with these limits may go there; what is said of it is a text.
+within(#limits{is_long = true}, Said, {at, _, _}) ->
+    throw_refused(long, "~ts is a connection, as ~ts may name, and monitor serve judges within the limits of a session:"
+                        " record a long run to a folder, and reduce it by monitor_reduce.py; ~ts is 1 for one",
+                  [Said, ?PLACE, ?AS_LONG]);
+within(_, _, Place) ->
+    Place.
 
 %% @doc Records to `monitor serve' on a port of this machine, 1 to 65,534, for which it waits ten seconds.
 -spec to_port(name(), inet:port_number()) -> recorder().
@@ -423,10 +476,17 @@ to_port(Process, Port) ->
     to_port(Process, Port, ?CONNECT_MILLISECONDS).
 
 %% @doc The same, with another time to wait for somebody who listens, in milliseconds. A later call waits while the
-%% monitor doesn't read.
+%% monitor doesn't read. With MONITOR_LONG=1 it is refused as `long', since a long recording is reduced before it is
+%% judged.
 -spec to_port(name(), inet:port_number(), non_neg_integer()) -> recorder().
 to_port(Process, Port, Milliseconds) ->
-    opened(Process, {at, {?HERE, Port}, Milliseconds}).
+    Name = checked_name(process_name, Process),
+    Limits = limits_of([], []),
+    try within(Limits, integer_to_list(Port), {at, {?HERE, Port}, Milliseconds}) of
+        At -> opened(Name, At, Limits)
+    catch
+        throw:Refusal -> answered(Refusal)
+    end.
 
 %% @doc Records to where MONITOR_TO in the environment says: to a new file NAME.stream in a folder of this name, which
 %% is made if there is none, or to `monitor serve', on a port of this machine, of :7411 or localhost:7411, on one of
@@ -436,7 +496,8 @@ to_port(Process, Port, Milliseconds) ->
 from_environment(Process) ->
     from_environment(Process, []).
 
-%% @doc The same, with options. A connection keeps no earlier incarnation, so `again' is refused with one.
+%% @doc The same, with options. A connection keeps no earlier incarnation, and is judged within the limits of a session,
+%% so `again' and `long' are refused with one.
 -spec from_environment(name(), [option()]) -> recorder().
 from_environment(Process, Options) ->
     to_place(Process, os:getenv(?PLACE, ""), Options).
@@ -450,10 +511,16 @@ to_place(Process, Place) ->
 -spec to_place(name(), file:filename_all(), [option()]) -> recorder().
 to_place(Process, Place, Options) ->
     Name = checked_name(process_name, Process),
-    try in_folder(Name, place_of(Place)) of
-        {file, Path} -> opened(Name, in_file(Path, Options));
-        At when Options =:= [] -> opened(Name, At);
-        _ -> refuse(again, "~ts is a connection, and only a folder keeps an earlier incarnation", [Place])
+    try
+        Kind = place_of(Place),
+        Limits = limits_of(Options, [again, long]),
+        {within(Limits, Place, in_folder(Name, Kind)), Limits}
+    of
+        {{file, Path}, Limits} -> opened(Name, in_file(Path, Options), Limits);
+        {At, Limits} ->
+            lists:member(again, Options)
+                andalso refuse(again, "~ts is a connection, and only a folder keeps an earlier incarnation", [Place]),
+            opened(Name, At, Limits)
     catch
         throw:Refusal -> answered(Refusal)
     end.
@@ -529,10 +596,9 @@ closing(Recorder, Call) ->
         error:{not_recorded, ended, _} -> ok
     end.
 
-opened(Process, Place) ->
-    Name = checked_name(process_name, Process),
+opened(Name, Place, Limits) ->
     Owner = self(),
-    {Server, Monitor} = spawn_monitor(fun() -> begin_serving(Owner, Name, Place) end),
+    {Server, Monitor} = spawn_monitor(fun() -> begin_serving(Owner, Name, Place, Limits) end),
     receive
         {Server, opened, Opened} ->
             demonitor(Monitor, [flush]),
@@ -557,12 +623,12 @@ answered({refused, Word, Text}) -> error({not_recorded, Word, Text});
 answered({failed, Reason, _}) -> error({failed, Reason}).
 
 %% The process that holds the files or connections of a recorder and its strands.
-begin_serving(Owner, Name, Place) ->
+begin_serving(Owner, Name, Place, Limits) ->
     monitor(process, Owner),
-    try opened_stream(Name, Place) of
+    try opened_stream(Name, Place, Limits) of
         #stream{name = Opened} = Stream ->
             Owner ! {self(), opened, Opened},
-            serving(#family{main = Opened, place = Place, streams = #{Opened => Stream}})
+            serving(#family{main = Opened, place = Place, limits = Limits, streams = #{Opened => Stream}})
     catch
         throw:{refused, Word, Text} -> exit({not_recorded, Word, Text});
         throw:{failed, Reason, _} -> exit({failed, Reason})
@@ -602,7 +668,7 @@ made({send, Settings}, Stream, Family) ->
     {Id, Sent} = sent(Settings, with_room(Stream)),
     {{ok, Id}, with_stream(Sent, Family)};
 made({Kind, Id, Settings}, Stream, Family) ->
-    {{ok, ok}, with_stream(put_line(Kind, checked_id(Id), Settings, with_room(Stream)), Family)};
+    {{ok, ok}, with_stream(put_line(Kind, checked_id(Id, Stream), Settings, with_room(Stream)), Family)};
 made({strand, Name}, Stream, Family) ->
     begun(Name, with_room(Stream), Family);
 made({join, Name, Last, Settings}, Stream, Family) ->
@@ -641,23 +707,26 @@ served_end(Stream, Family) ->
     end.
 
 %% Begins a strand of this stream.
-begun(Name, Stream, #family{main = Main, place = Place, streams = Streams, is_closed = IsClosed} = Family) ->
-    IsClosed andalso throw_refused(ended, "the recording of ~ts has ended", [Main]),
-    refuse_name(Name, Streams, Main),
-    Strand = opened_stream(Name, beside(Name, Place)),
+begun(Name, Stream, #family{main = Main, streams = Streams, limits = Limits} = Family) ->
+    Family#family.is_closed andalso throw_refused(ended, "the recording of ~ts has ended", [Main]),
+    refuse_name(Name, Streams, Main, Limits),
+    Strand = opened_stream(Name, beside(Name, Family#family.place), Limits),
     {Id, Sent} = try sent([], Stream) catch throw:Reason -> closed(Strand), throw(Reason) end,
     Now = with_stream(Sent, Family),
     try put_line(recv, Id, [], Strand) of
-        Begun -> {{ok, ok}, with_stream(Begun#stream{limit = ?EVENT_LIMIT - 1}, Now)}
+        Begun -> {{ok, ok}, with_stream(Begun#stream{kept = 1}, Now)}
     catch
         throw:{failed, Error, Broken} -> {{failed, Error, none}, with_stream(closed(Broken), Now)}
     end.
 
-refuse_name(Name, Streams, Of) ->
+refuse_name(Name, Streams, Of, #limits{processes = Most, is_long = IsLong}) ->
     maps:is_key(Name, Streams)
         andalso throw_refused(name_twice, "~ts is another process of ~ts: give each a name of its own", [Name, Of]),
-    maps:size(Streams) >= ?PROCESS_LIMIT
-        andalso throw_refused(processes, "~ts has ~b processes, as many as a session may have", [Of, ?PROCESS_LIMIT]).
+    Why = if
+        IsLong -> "there can be no more";
+        true -> "a session has at most as many; begin fewer, " ?AS_A_LONG_RUN
+    end,
+    maps:size(Streams) >= Most andalso throw_refused(processes, "~ts has ~b processes, and ~ts", [Of, Most, Why]).
 
 %%% One stream.
 
@@ -674,8 +743,8 @@ address_of("") ->
 address_of("unix:" ++ Path) ->
     Bytes = unicode:characters_to_binary(Path),
     lists:prefix("/", Path) andalso byte_size(Bytes) =< ?SOCKET_BYTE_LIMIT
-        orelse throw_refused(place, "unix:~ts is no place: the path of a socket begins with / and has at most ~b bytes",
-                             [Path, ?SOCKET_BYTE_LIMIT]),
+        orelse throw_refused(place, "unix:~ts is no place for ~ts: the path of a socket begins with / and has at most"
+                                    " ~b bytes", [Path, ?PLACE, ?SOCKET_BYTE_LIMIT]),
     {local, Bytes};
 address_of(Text) ->
     Pattern = "\\A(?:\\[([0-9A-Fa-f:.]+(?:%[A-Za-z0-9._-]+)?)\\]|([A-Za-z0-9._-]*)):([0-9]{1,5})\\z",
@@ -696,7 +765,7 @@ host_of(Host) ->
     end.
 
 refuse_place(Text) ->
-    throw_refused(place, "~ts is no place, which is ~ts", [Text, places()]).
+    throw_refused(place, "~ts is no place for ~ts, which names ~ts", [Text, ?PLACE, places()]).
 
 places() ->
     text("a folder, which has a slash if it has a colon, a port as :7411, host:7411 or [::1]:7411, from 1 to ~b, or a"
@@ -716,27 +785,27 @@ beside(Name, {Kind, Path}) when Kind =:= file; Kind =:= again -> {file, filename
 beside(_, At) -> At.
 
 %% A stream that has its first line.
-opened_stream(Name, {file, Path}) ->
+opened_stream(Name, {file, Path}, Limits) ->
     case file:open(Path, [write, exclusive, raw, binary]) of
-        {ok, File} -> joined(#stream{name = Name, out = {file, File}});
+        {ok, File} -> joined(#stream{name = Name, out = {file, File}, limits = Limits});
         {error, Reason} -> throw({failed, Reason, none})
     end;
-opened_stream(Name, {again, Path}) ->
-    incarnation(Name, Path);
-opened_stream(Name, {at, Address, Milliseconds}) ->
+opened_stream(Name, {again, Path}, Limits) ->
+    incarnation(Name, Path, Limits);
+opened_stream(Name, {at, Address, Milliseconds}, Limits) ->
     Until = erlang:monotonic_time(millisecond) + Milliseconds,
-    joined(#stream{name = Name, out = {socket, connected(Address, Until)}}).
+    joined(#stream{name = Name, out = {socket, connected(Address, Until)}, limits = Limits}).
 
 %% An incarnation of a process, to the first of its files that isn't there yet. It gets its name once the receipt
 %% stands in it, so that it has that whenever the process is killed.
-incarnation(Process, First) ->
+incarnation(Process, First, Limits) ->
     Number = free_place(fun(Tried) -> path_of(First, Tried) end),
     {Name, Path} = {incarnation_of(Process, Number), path_of(First, Number)},
     Number > 1 andalso refuse_running(incarnation_of(Process, Number - 1), path_of(First, Number - 1)),
     name_of(process_name, Name),
     Parts = fun(Tried) -> part_of(Path, Tried) end,
     Part = Parts(free_place(Parts)),
-    Stream = opened_stream(Name, {file, Part}),
+    Stream = opened_stream(Name, {file, Part}, Limits),
     try
         Received = received_end(Process, Number, Stream),
         case file:rename(Part, Path) of
@@ -863,10 +932,12 @@ ready(#stream{name = Name}) -> throw_refused(broken, "an earlier line of ~ts cou
 
 %% The stream, if it is open and may have one more event.
 with_room(Stream) ->
-    #stream{events = Events, limit = Limit, name = Name} = ready(Stream),
-    Events >= Limit
-        andalso throw_refused(events, "~ts has ~b events: no process may have more than ~b, and the last one of a"
-                                      " strand is its end", [Name, Events, ?EVENT_LIMIT]),
+    #stream{events = Events, kept = Kept, limits = Limits, name = Name} = ready(Stream),
+    #limits{events = Most, is_long = IsLong} = Limits,
+    Advice = if IsLong -> ""; true -> "; record fewer, " ?AS_A_LONG_RUN end,
+    Events >= Most - Kept
+        andalso throw_refused(events, "~ts has ~b events, and no process may have more than ~b, of which the last one"
+                                      " of a strand is its end~ts", [Name, Events, Most, Advice]),
     Stream.
 
 %% Writes a send with an id that is made.
@@ -900,7 +971,8 @@ put_end(Stream) ->
 
 %% Hands the line to the system. If that fails, nothing more is written later.
 write_line(Line, #stream{out = Out} = Stream) ->
-    %% With the limits above no line has over 1,400 bytes, and no stream over 14,000,000: monitor takes more.
+    %% With the limits above no line has over 1,400 bytes, and no stream over 14,000,000: monitor takes more. A line of
+    %% a long recording has at most 7,200.
     Done = case Out of
         {file, File} -> file:write(File, Line);
         {socket, Socket} -> socket:send(Socket, iolist_to_binary(Line))
@@ -978,16 +1050,16 @@ value_of(_, false) -> 0;
 value_of(_, Value) when is_integer(Value), Value >= ?LEAST_VALUE, Value =< ?GREATEST_VALUE -> Value;
 value_of(Name, Value) -> throw_refused(value, "~ts must be a whole number of 64 bits, and is ~tP", [Name, Value, 20]).
 
-checked_id(Id) ->
+checked_id(Id, #stream{limits = #limits{id_bytes = Most}}) ->
     case is_binary(Id) orelse is_list(Id) andalso unicode:characters_to_binary(Id) of
-        true -> checked_bytes(Id, unicode:characters_to_binary(Id));
-        Bytes -> checked_bytes(Id, Bytes)
+        true -> checked_bytes(Id, unicode:characters_to_binary(Id), Most);
+        Bytes -> checked_bytes(Id, Bytes, Most)
     end.
 
-checked_bytes(_, Bytes) when is_binary(Bytes), byte_size(Bytes) >= 1, byte_size(Bytes) =< ?ID_BYTE_LIMIT ->
+checked_bytes(_, Bytes, Most) when is_binary(Bytes), byte_size(Bytes) >= 1, byte_size(Bytes) =< Most ->
     Bytes;
-checked_bytes(Id, _) ->
-    throw_refused(id, "the id of a message is a text of 1 to ~b bytes of UTF-8, and not ~tP", [?ID_BYTE_LIMIT, Id, 20]).
+checked_bytes(Id, _, Most) ->
+    throw_refused(id, "the id of a message is a text of 1 to ~b bytes of UTF-8, and not ~tP", [Most, Id, 20]).
 
 throw_refused(Word, Format, Values) ->
     throw({refused, Word, text(Format, Values)}).

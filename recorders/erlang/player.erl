@@ -5,6 +5,8 @@
 %% The process that is recorded, and its recorder and those of its strands by their names.
 -record(played, {process = none, recorders = #{}}).
 
+%% The text of the last refusal is kept in the dictionary of the process.
+
 main() ->
     ok = io:setopts([binary, {encoding, unicode}]),
     play(#played{}).
@@ -30,7 +32,8 @@ answer(Call, Words, Played) ->
     catch
         throw:cannot -> {"cannot", Played};
         error:{failed, _} -> {"failed", Played};
-        error:{not_recorded, Word, _} ->
+        error:{not_recorded, Word, Text} ->
+            put(refusal, Text),
             {["refused ", string:replace(atom_to_list(Word), "_", "-", all)], Played}
     end.
 
@@ -41,6 +44,12 @@ make(<<"port">>, [Process, Port, Seconds], _) ->
     begun(Process, monitor_recorder:to_port(text(Process), binary_to_integer(Port), Milliseconds));
 make(<<"again">>, [Process, Path], _) ->
     begun(Process, monitor_recorder:to_file(text(Process), text(Path), [again]));
+make(<<"long">>, [Process, Path], _) ->
+    begun(Process, monitor_recorder:to_file(text(Process), text(Path), [long]));
+make(<<"long-at">>, [Process, Place], _) ->
+    true = os:putenv("MONITOR_TO", binary_to_list(text(Place))),
+    begun(Process, monitor_recorder:from_environment(text(Process), [long]));
+make(<<"said">>, [], _) -> get(refusal);
 make(<<"place">>, [Process, Place], _) ->
     true = os:putenv("MONITOR_TO", binary_to_list(text(Place))),
     begun(Process, monitor_recorder:from_environment(text(Process)));

@@ -14,7 +14,8 @@ tests() ->
      "what_a_process_sends_to_itself", "a_call_of_a_gen_server", "names_and_ways_to_send", "an_exit",
      "a_join_of_what_has_not_exited", "a_child",
      "a_process_that_is_added_later", "recordings_one_after_the_other", "stopped_at_work",
-     "refusals_of_trace", "settings_that_are_refused", "too_many_variables", "too_many_events", "another_tracer",
+     "refusals_of_trace", "settings_that_are_refused", "too_many_variables", "too_many_events",
+     "a_long_recording", "another_tracer",
      "where_nothing_is_recorded", "a_lease", "places", "an_owner_that_exits", "names_texts_and_values"].
 
 passes(Test, Folder) ->
@@ -269,6 +270,16 @@ test("too_many_events", Folder) ->
     make(A, fun() -> [monitor_recorder:set([{x, Turn}]) || Turn <- lists:seq(1, 10001)], ok end),
     {not_recorded, broken, [{<<"a">>, {refused, events, _}}]} = raised(fun() -> monitor_recorder:stop() end),
     10000 = length(lines(Folder, "a"));
+
+test("a_long_recording", Folder) ->
+    A = worker(),
+    ok = monitor_recorder:trace([{a, A}], Folder, [long]),
+    make(A, fun() -> [monitor_recorder:set([{x, Turn}]) || Turn <- lists:seq(1, 10001)], ok end),
+    ok = monitor_recorder:stop(),
+    10002 = length(lines(Folder, "a")),
+    refused(long, fun() -> monitor_recorder:trace([{a, worker()}], ":7411", [long]) end),
+    ok = monitor_recorder:stop(),
+    badarg = raised(fun() -> monitor_recorder:to_file(left, filename:join(Folder, "left.stream"), [longer]) end);
 
 test("another_tracer", _) ->
     seq_trace:set_system_tracer(self()),

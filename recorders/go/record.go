@@ -32,6 +32,10 @@
 //	<-done
 //	err = left.Join(worker) // AFTER the goroutine has been waited for
 //
+// A session has limits, and a recording that is over them is refused at the call. With [Options] that are Long, or
+// MONITOR_LONG=1 in the environment, it is a long recording, of any length, which monitor_reduce.py reduces before it
+// is judged.
+//
 // Events have no names. With [Options] each has a note in left.notes.jsonl, of the line of the program that recorded it,
 // and of a text if one is given, as by left.Event(record.Set("inside", 1), record.Note("the lock is ours")).
 package record
@@ -67,6 +71,21 @@ const (
 	NoteByteLimit = 1_024  // at most so many bytes has a note of its text, and of its place's file: the rest is cut
 )
 
+// The limits of a long recording: see [Options].
+const (
+	LongEventLimit   = 2_147_483_647 // at most so many events has a process
+	LongProcessLimit = 4_096         // at most so many processes are a process and its strands
+	LongIDByteLimit  = 1_024         // at most so many bytes has the id of a message
+)
+
+// Limits are how many events, processes and bytes of an id a recording may have.
+type limits struct{ events, processes, idBytes int }
+
+var (
+	session = limits{EventLimit, ProcessLimit, IDByteLimit}
+	long    = limits{LongEventLimit, LongProcessLimit, LongIDByteLimit}
+)
+
 const (
 	patience  = 10 * time.Second
 	pause     = 50 * time.Millisecond
@@ -91,6 +110,30 @@ type Options struct {
 	// before did; monitor_mend adds the send. It is ErrRunning while the one before still runs. It needs POSIX's locks,
 	// by which that is seen: they are in lock_unix.go.
 	Again bool
+	// Long makes it a long recording: it may have 2,147,483,647 events, 4,096 processes with its strands, and ids of
+	// 1,024 bytes, and has to be reduced by monitor_reduce.py before it is judged. MONITOR_LONG=1 in the environment says
+	// the same, of each recorder that is made.
+	Long bool
+}
+
+// limits are those of what is recorded, as the options or the environment say.
+func (o Options) limits() (limits, error) {
+	switch text := os.Getenv("MONITOR_LONG"); {
+	case text != "" && text != "0" && text != "1":
+		return limits{}, refused("MONITOR_LONG="+text, ErrLong)
+	case o.Long || text == "1":
+		return long, nil
+	}
+	return session, nil
+}
+
+// withinSession is an error if it is a long recording, which no connection to this place takes.
+func (o Options) withinSession(place string) error {
+	wanted, err := o.limits()
+	if err == nil && wanted == long {
+		err = refused(place, ErrLong)
+	}
+	return err
 }
 
 // ErrNotRecorded is what each error of a call is, by errors.Is, that was refused and wrote nothing.
@@ -107,10 +150,12 @@ var (
 	ErrValue error = refusal("no whole number of 64 bits with a sign")
 	// ErrVariables: a process has at most 16 variables.
 	ErrVariables error = refusal("a process has at most 16 variables")
-	// ErrEvents: a process has at most 10,000 events. The last one of a strand is kept for its end.
-	ErrEvents error = refusal("a process has at most 10,000 events, of which a strand's last one is its end")
-	// ErrID: the id of a message has 1 to 64 bytes, which are UTF-8.
-	ErrID error = refusal("the id of a message has 1 to 64 bytes of UTF-8")
+	// ErrEvents: a process has at most 10,000 events, or 2,147,483,647 in a long recording. The last one of a strand is
+	// kept for its end.
+	ErrEvents error = refusal("a process has at most 10,000 events, of which a strand's last one is its end; record " +
+		"fewer, " + asALongRun)
+	// ErrID: the id of a message has 1 to 64 bytes, or 1,024 in a long recording, which are UTF-8.
+	ErrID error = refusal("the id of a message has 1 to 64 bytes of UTF-8, or 1,024 in a long run")
 	// ErrIDTwice: the process has sent or received a message with this id before: a receipt is that of a second copy.
 	ErrIDTwice error = refusal("a message with this id was sent or received before")
 	// ErrEnded: the recording has ended, or was closed.
@@ -119,8 +164,9 @@ var (
 	ErrBroken error = refusal("an earlier line could not be written")
 	// ErrNameTwice: the name is that of the process or of another strand of it.
 	ErrNameTwice error = refusal("another process of this recording has this name: give each strand one of its own")
-	// ErrProcesses: a process and its strands are at most 16.
-	ErrProcesses error = refusal("a session has at most 16 processes, and a process and its strands are as many")
+	// ErrProcesses: a process and its strands are at most 16, or 4,096 in a long recording.
+	ErrProcesses error = refusal("a session has at most 16 processes, and a process and its strands are as many; begin " +
+		"fewer strands, " + asALongRun)
 	// ErrNoPlace: the recorder was made by New, so there is no place for the stream of a strand.
 	ErrNoPlace error = refusal("no place for the stream of a strand: make the recorder by ToFile or ToPort")
 	// ErrNotEnded: what is to be joined is no strand that has ended.
@@ -135,10 +181,17 @@ var (
 	// system without POSIX's locks.
 	ErrAgain error = refusal("no earlier incarnation is there to be told: it has a file in a folder, which isn't " +
 		"replaced, and this system has to have locks, which are in lock_unix.go")
+	// ErrLong says that a long recording goes to no connection, or that MONITOR_LONG is neither 1 nor 0.
+	ErrLong error = refusal("no long recording is made: MONITOR_LONG is 1 for one, and else 0 or not set; and none goes " +
+		"to a connection, of MONITOR_TO or not, since monitor serve judges within the limits of a session: record to a " +
+		"folder, and reduce it by monitor_reduce.py")
 	// ErrNotes says that there is no place for notes, as at a port, or that MONITOR_NOTES is neither 1 nor 0.
 	ErrNotes error = refusal("no place for notes, which go beside a file whose name ends with .stream and to no port; " +
 		"MONITOR_NOTES is 1 for notes, and else 0 or not set")
 )
+
+const asALongRun = "or record it as a long run: record.Options{Long: true} or MONITOR_LONG=1, and reduce it by " +
+	"monitor_reduce.py"
 
 type refusal string
 
@@ -184,6 +237,7 @@ func Set[V Value](name string, value V) Setting {
 type Recorder struct {
 	process  string
 	family   *family
+	limits   limits
 	isStrand bool
 
 	mutex  sync.Mutex
@@ -220,14 +274,18 @@ func (o Options) ToFile(process, path string) (*Recorder, error) {
 		}
 		return newFiles(beside, o)
 	}
+	wanted, err := o.limits()
+	if err != nil {
+		return nil, err
+	}
 	if o.Again {
-		return o.incarnation(process, first, open)
+		return o.incarnation(process, first, wanted, open)
 	}
 	out, err := newFiles(path, o)
 	if err != nil {
 		return nil, err
 	}
-	return over(process, out, open)
+	return over(process, out, wanted, open)
 }
 
 // Locks of POSIX: that of a file which this process writes, and whether another process has one. They are nil where
@@ -238,7 +296,9 @@ var (
 )
 
 // incarnation records to the first file of the process that isn't there yet.
-func (o Options) incarnation(process, first string, open func(string) (files, error)) (*Recorder, error) {
+func (o Options) incarnation(
+	process, first string, wanted limits, open func(string) (files, error),
+) (*Recorder, error) {
 	if o.Replace || lock == nil {
 		return nil, refused(process, ErrAgain)
 	}
@@ -257,7 +317,12 @@ func (o Options) incarnation(process, first string, open func(string) (files, er
 	}
 	// It gets its name once the receipt stands in it, so that it has that whenever the process is killed.
 	part := newPart(path)
-	r, err := o.inPart(name, path, part, open)
+	made, err := o.inPart(path, part)
+	if err != nil {
+		os.Remove(part)
+		return nil, err
+	}
+	r, err := over(name, made, wanted, open)
 	if err == nil && number > 1 {
 		err = r.Receive(incarnationOf(process, number-1) + "-ended")
 	}
@@ -274,12 +339,12 @@ func (o Options) incarnation(process, first string, open func(string) (files, er
 	return r, nil
 }
 
-// inPart records to a new file with a lock. Notes that are there are of an incarnation that was killed before its
-// stream had its name.
-func (o Options) inPart(name, path, part string, open func(string) (files, error)) (*Recorder, error) {
+// inPart opens a new file with a lock. Notes that are there are of an incarnation that was killed before its stream had
+// its name.
+func (o Options) inPart(path, part string) (files, error) {
 	out, err := os.OpenFile(part, os.O_WRONLY|os.O_CREATE|os.O_EXCL, 0o666)
 	if err != nil {
-		return nil, err
+		return files{}, err
 	}
 	lock(out)
 	made := files{out: out}
@@ -287,10 +352,10 @@ func (o Options) inPart(name, path, part string, open func(string) (files, error
 		made.notes, err = newFile(strings.TrimSuffix(path, ending)+notesEnding, Options{Replace: true})
 		if err != nil {
 			out.Close()
-			return nil, err
+			return files{}, err
 		}
 	}
-	return over(name, made, open)
+	return made, nil
 }
 
 // runs is an error if the earlier incarnation with this file still runs.
@@ -408,10 +473,14 @@ func isSameFile(one, other string) bool {
 
 // ToPort records to monitor serve on a port of this machine, 1 to 65,534. If nobody listens there yet, it is tried
 // again until the context is done; if it has no deadline, for ten seconds at most. Then the error is the context's, or
-// syscall.ECONNREFUSED. A later call waits while the monitor doesn't read.
+// syscall.ECONNREFUSED. A later call waits while the monitor doesn't read. With MONITOR_LONG=1 it is ErrLong, since a
+// long recording is reduced before it is judged.
 func ToPort(ctx context.Context, process string, port int) (*Recorder, error) {
 	if !isName(process) {
 		return nil, refused(process, ErrProcessName)
+	}
+	if err := (Options{}).withinSession(strconv.Itoa(port)); err != nil {
+		return nil, err
 	}
 	return address{"tcp4", net.JoinHostPort(here, strconv.Itoa(port))}.record(ctx, process)
 }
@@ -424,7 +493,7 @@ func (a address) record(ctx context.Context, process string) (*Recorder, error) 
 	if err != nil {
 		return nil, err
 	}
-	return over(process, files{out: connection}, func(string) (files, error) {
+	return over(process, files{out: connection}, session, func(string) (files, error) {
 		connection, err := a.connection(context.Background())
 		return files{out: connection}, err
 	})
@@ -465,8 +534,9 @@ var portPattern = regexp.MustCompile(
 // live session: to a new file NAME.stream in a folder of this name, which is made if there is none; or to monitor
 // serve, on a port of this machine, of :7411 or localhost:7411, on one of another machine, of host:7411 or
 // [fe80::1]:7411, or by a Unix socket, of unix:/run/monitor.sock. With MONITOR_NOTES=1 each event gets a note beside
-// the file. A connection has no place for notes, and keeps no earlier incarnation, so with one notes are ErrNotes, and
-// [Options] with Again are ErrAgain. What has a colon and no slash is no folder.
+// the file. A connection has no place for notes, keeps no earlier incarnation, and is judged within the limits of a
+// session, so with one notes are ErrNotes, and [Options] with Again are ErrAgain, and with Long ErrLong. What has a
+// colon and no slash is no folder.
 func FromEnvironment(ctx context.Context, process string) (*Recorder, error) {
 	return Options{}.FromEnvironment(ctx, process)
 }
@@ -489,8 +559,15 @@ func (o Options) FromEnvironment(ctx context.Context, process string) (*Recorder
 		return nil, refused(place, ErrNotes)
 	case !isFolder && o.Again:
 		return nil, refused(place, ErrAgain)
-	case !isFolder:
+	}
+	if !isFolder {
+		if err := o.withinSession(place); err != nil {
+			return nil, err
+		}
 		return address.record(ctx, process)
+	}
+	if _, err := o.limits(); err != nil {
+		return nil, err
 	}
 	if err := os.MkdirAll(place, 0o777); err != nil {
 		return nil, err
@@ -500,11 +577,23 @@ func (o Options) FromEnvironment(ctx context.Context, process string) (*Recorder
 
 // New records to a file, a connection or whatever else takes bytes, without a buffer of its own. It is closed with the
 // recorder.
-func New(process string, out io.WriteCloser) (*Recorder, error) {
+func New(process string, out io.WriteCloser) (*Recorder, error) { return Options{}.New(process, out) }
+
+// New records to a file, a connection or whatever else takes bytes. Of these options only Long says anything of it.
+func (o Options) New(process string, out io.WriteCloser) (*Recorder, error) {
 	if !isName(process) {
 		return nil, refused(process, ErrProcessName)
 	}
-	r := &Recorder{process: process, out: out, ids: map[string]bool{}, names: map[string]bool{}}
+	wanted, err := o.limits()
+	if err != nil {
+		return nil, err
+	}
+	return begun(process, out, wanted)
+}
+
+// begun is a recorder that has written its first line.
+func begun(process string, out io.WriteCloser, wanted limits) (*Recorder, error) {
+	r := &Recorder{process: process, limits: wanted, out: out, ids: map[string]bool{}, names: map[string]bool{}}
 	r.family = &family{names: map[string]bool{process: true}}
 	if err := r.write(`{"process":` + quoted(process) + "}\n"); err != nil {
 		return nil, err
@@ -512,8 +601,8 @@ func New(process string, out io.WriteCloser) (*Recorder, error) {
 	return r, nil
 }
 
-func over(process string, made files, open func(string) (files, error)) (*Recorder, error) {
-	r, err := New(process, made.out)
+func over(process string, made files, wanted limits, open func(string) (files, error)) (*Recorder, error) {
+	r, err := begun(process, made.out, wanted)
 	if err != nil {
 		made.close()
 		return nil, err
@@ -569,7 +658,7 @@ func (r *Recorder) Strand(name string) (*Recorder, error) {
 	if err := r.room(); err != nil {
 		return nil, err
 	}
-	strand, err := r.family.begun(name)
+	strand, err := r.family.begun(name, r.limits)
 	if err != nil {
 		return nil, err
 	}
@@ -709,7 +798,7 @@ type family struct {
 }
 
 // begun is a strand of this name, which has written its first line.
-func (f *family) begun(name string) (*Recorder, error) {
+func (f *family) begun(name string, wanted limits) (*Recorder, error) {
 	f.mutex.Lock()
 	defer f.mutex.Unlock()
 	switch {
@@ -717,7 +806,7 @@ func (f *family) begun(name string) (*Recorder, error) {
 		return nil, refused(name, ErrEnded)
 	case f.names[name]:
 		return nil, refused(name, ErrNameTwice)
-	case len(f.names) == ProcessLimit:
+	case len(f.names) == wanted.processes:
 		return nil, refused(name, ErrProcesses)
 	case f.open == nil:
 		return nil, refused(name, ErrNoPlace)
@@ -726,7 +815,7 @@ func (f *family) begun(name string) (*Recorder, error) {
 	if err != nil {
 		return nil, err
 	}
-	strand, err := over(name, out, nil)
+	strand, err := over(name, out, wanted, nil)
 	if err != nil {
 		return nil, err
 	}
@@ -877,7 +966,7 @@ func (r *Recorder) record(field, id string, settings []Setting) error {
 
 // room is an error if no event may be recorded. One of a strand's events is kept for its end.
 func (r *Recorder) room() error {
-	limit := EventLimit
+	limit := r.limits.events
 	if r.isStrand {
 		limit--
 	}
@@ -895,7 +984,7 @@ func (r *Recorder) room() error {
 // put checks the message and the variables of an event, and writes its line.
 func (r *Recorder) put(field, id string, settings []Setting) error {
 	switch {
-	case field != "" && (id == "" || len(id) > IDByteLimit || !utf8.ValidString(id)):
+	case field != "" && (id == "" || len(id) > r.limits.idBytes || !utf8.ValidString(id)):
 		return refused(id, ErrID)
 	case r.ids[id]:
 		return refused(id, ErrIDTwice)
@@ -1019,7 +1108,8 @@ func (r *Recorder) write(line string) error { return r.writeTo(r.out, line) }
 
 // writeTo hands a line to the system. If that fails, or panics, nothing more is written later.
 func (r *Recorder) writeTo(out io.Writer, line string) error {
-	// With the limits above no line has over 1,400 bytes, and no stream over 14,000,000: monitor takes more.
+	// With the limits above no line has over 1,400 bytes, and no stream over 14,000,000: monitor takes more. A line of a
+	// long recording has at most 7,200.
 	r.broken = true
 	written, err := out.Write([]byte(line))
 	if err == nil && written < len(line) {

@@ -67,7 +67,8 @@ func seeText(t *testing.T, out *memory, wanted string) {
 
 func TestEveryReasonIsNotRecorded(t *testing.T) {
 	reasons := []error{ErrProcessName, ErrVariableName, ErrValue, ErrVariables, ErrEvents, ErrID, ErrIDTwice, ErrEnded,
-		ErrBroken, ErrNameTwice, ErrProcesses, ErrNoPlace, ErrNotEnded, ErrPlace, ErrNotes}
+		ErrBroken, ErrNameTwice, ErrProcesses, ErrNoPlace, ErrNotEnded, ErrPlace, ErrRunning, ErrAgain,
+		ErrLong, ErrNotes}
 	for place, reason := range reasons {
 		see(t, refused("x", reason), ErrNotRecorded)
 		for other := range reasons {
@@ -118,6 +119,17 @@ func TestAfterALineThatCouldNotBeWrittenNothingIs(t *testing.T) {
 	if r.Events() != 1 || !out.closed {
 		t.Errorf("there are %d events, and closed is %t", r.Events(), out.closed)
 	}
+}
+
+func TestALongRecording(t *testing.T) {
+	id := strings.Repeat("x", LongIDByteLimit)
+	out := &memory{room: 10000}
+	r, err := Options{Long: true}.New("left", out)
+	see(t, err, nil)
+	see(t, r.Receive(id), nil)
+	see(t, r.SendAs(id+"x"), ErrID)
+	see(t, r.End(), nil)
+	seeText(t, out, "{\"process\":\"left\"}\n{\"recv\":\""+id+"\"}\n{\"end\":true}\n")
 }
 
 func TestAPanicLeavesNoEndLine(t *testing.T) {

@@ -34,6 +34,8 @@ import monitor.Recorder.Option;
 final class Player {
     private final Map<String, Recorder> recorders = new HashMap<>();
     private Recorder recorder;
+    /** The text of the last refusal. */
+    private String refusal = "";
     /** The note of the call, if it has one. */
     private List<Detail> said = List.of();
     /** What threads share, by its names. */
@@ -62,6 +64,7 @@ final class Player {
         } catch (NumberFormatException | UnsupportedOperationException error) {
             return "cannot"; // Java has no such value of 64 bits, or no such call
         } catch (NotRecordedException error) {
+            refusal = error.getMessage();
             return "refused " + error.reason().name().toLowerCase(Locale.ROOT).replace('_', '-');
         } catch (IOException | UncheckedIOException error) {
             return "failed";
@@ -79,6 +82,12 @@ final class Player {
             case "place" -> begin(words.get(0), Recorder.toPlace(textOf(words.get(0)), textOf(words.get(1))));
             case "again-at" -> begin(words.get(0),
                     Recorder.toPlace(textOf(words.get(0)), textOf(words.get(1)), Option.AGAIN));
+            case "long" -> openFile(words, Option.LONG);
+            case "long-at" -> begin(words.get(0),
+                    Recorder.toPlace(textOf(words.get(0)), textOf(words.get(1)), Option.LONG));
+            case "said" -> {
+                return refusal;
+            }
             case "note" -> {
                 return makeNoted(words.get(0), words.get(1), words.subList(2, words.size()));
             }

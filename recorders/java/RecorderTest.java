@@ -65,6 +65,7 @@ final class RecorderTest {
         strandsAreClosedWithTheirProcess(folder);
         aProcessThatEndsWhileItsStrandsRecord(folder);
         strandsThatAreRefused(folder);
+        aLongRecording();
         notes(folder.resolve("notes"));
         whereThereIsNoPlaceForNotes(folder.resolve("no-place"));
         filesThatAreReplaced(folder.resolve("replaced"));
@@ -111,6 +112,16 @@ final class RecorderTest {
         }
         recorder.sendAs("a\0b");
         see(out.toString(StandardCharsets.UTF_8), JOIN + "{\"send\":\"a\\u0000b\"}\n");
+    }
+
+    private static void aLongRecording() throws IOException {
+        String id = "x".repeat(Recorder.LONG_ID_BYTE_LIMIT);
+        ByteArrayOutputStream out = new ByteArrayOutputStream();
+        Recorder recorder = new Recorder("left", out, Option.LONG);
+        recorder.receive(id);
+        seeRefused(Reason.ID, () -> recorder.sendAs(id + "x"));
+        recorder.end();
+        see(out.toString(StandardCharsets.UTF_8), JOIN + "{\"recv\":\"" + id + "\"}\n" + END);
     }
 
     private static void namesThatAreMissingOrStandTwice() throws IOException {

@@ -29,6 +29,10 @@
  *       worker.event({ busy: 1 }); // `Recorder.current()` is `worker` here, and in what is called from here
  *     });
  *
+ * A session has limits, and a recording that is over them is refused at the call. With `{ long: true }`, or
+ * MONITOR_LONG=1 in the environment, it is a long recording, of any length, which monitor_reduce.py reduces before it
+ * is judged.
+ *
  * Events have no names. With `{ notes: true }` each has a note in left.notes.jsonl, of the line of the program that
  * recorded it, and of a text if one is given, as by `recorder.event({ inside: 1 }, { note: "the lock is ours" })`.
  *
@@ -46,6 +50,9 @@ const VARIABLE_LIMIT = 16;
 const PROCESS_LIMIT = 16;
 const NAME_BYTE_LIMIT = 32;
 const ID_BYTE_LIMIT = 64;
+const LONG_EVENT_LIMIT = 2_147_483_647;
+const LONG_PROCESS_LIMIT = 4_096;
+const LONG_ID_BYTE_LIMIT = 1_024;
 const NOTE_BYTE_LIMIT = 1_024;
 const [ENDING, NOTES_ENDING] = [".stream", ".notes.jsonl"];
 // Besides what JSON escapes these are: a terminal takes some for commands, and what reads lines others for their ends.
@@ -64,6 +71,12 @@ const HERE = "127.0.0.1";
 const PLACES =
   `a folder, a port as :7411, host:7411 or [::1]:7411, from 1 to ${PORT_LIMIT}, ` + "or a socket as unix:/run/a.sock";
 const SHOWN = 60; // so many letters of a wrong value are shown
+// At most so many events has a process, so many processes have a recorder and its strands, and so many bytes has an id.
+const SESSION = { events: EVENT_LIMIT, processes: PROCESS_LIMIT, idBytes: ID_BYTE_LIMIT };
+const LONG = { events: LONG_EVENT_LIMIT, processes: LONG_PROCESS_LIMIT, idBytes: LONG_ID_BYTE_LIMIT };
+const AS_A_LONG_RUN =
+  "or record it as a long run: { long: true } or MONITOR_LONG=1, and reduce it by monitor_reduce.py";
+const SET_LIMIT = 2 ** 24; // so many values has a Set of Node
 const [OPEN, ENDED, BROKEN] = ["open", "ended", "broken"];
 const STATES = { ended: "has ended", broken: "is broken off, since a line could not be written" };
 // What both threads of a connection share: whether the last line was answered, how many bytes its error's code has, and
@@ -95,9 +108,10 @@ class Recorder {
   #begunAt; // the place where a strand was begun, if events have notes
   #last; // the id of the message by which a strand has ended
   #state = OPEN;
+  #limits;
   #events = 0;
   #made = 0;
-  #ids = new Set();
+  #ids = new Ids();
   #names = new Set();
 
   static {
@@ -110,10 +124,14 @@ class Recorder {
     };
   }
 
-  /** Records to a file, a pipe or the like that is open for writing, which is closed with the recorder. */
-  constructor(process, descriptor) {
+  /**
+   * Records to a file, a pipe or the like that is open for writing, which is closed with the recorder. With `long` it
+   * is a long recording, as with that of `toFile`.
+   */
+  constructor(process, descriptor, options = {}) {
     this.#process = checkedName("process", process);
-    this.#family = new Family(process);
+    this.#limits = options === SESSION || options === LONG ? options : limitsOf(options);
+    this.#family = new Family(process, this.#limits);
     this.#out = typeof descriptor === "number" ? new Descriptor(descriptor) : descriptor;
     this.#write(`{"process":"${process}"}`);
   }
@@ -128,6 +146,9 @@ class Recorder {
    * second one is `left_2` in `left_2.stream`. Its first event receives the message `left-ended`, by which it comes
    * after all that the one before did; monitor_mend adds the send. It is refused while a process of this machine still
    * has the file of the one before open for writing, and on a system that doesn't tell by /proc which process has.
+   *
+   * With `long`, or MONITOR_LONG=1 in the environment, it is a long recording: it may have 2,147,483,647 events, 4,096
+   * processes with its strands, and ids of 1,024 bytes, and has to be reduced by monitor_reduce.py before it is judged.
    */
   static toFile(process, file, options = {}) {
     checkedName("process", process);
@@ -139,12 +160,13 @@ class Recorder {
       const advice = `notes of left${ENDING} are in left${NOTES_ENDING}`;
       throw new NotRecorded("notes", `${JSON.stringify(first)} doesn't end with ${ENDING}: ${advice}`);
     }
+    const limits = limitsOf(options);
     const opened = (name) => openedFiles(besideOf(first, name, options), options);
-    if (options.again) return Recorder.#incarnation(process, first, options, opened);
-    return Recorder.#over(process, openedFiles(first, options), opened);
+    if (options.again) return Recorder.#incarnation(process, first, options, limits, opened);
+    return Recorder.#over(process, openedFiles(first, options), limits, opened);
   }
 
-  static #incarnation(process, first, { notes = false }, opened) {
+  static #incarnation(process, first, { notes = false }, limits, opened) {
     let number = 1;
     while (isThere(pathOf(first, number))) number++;
     const [file, name] = [pathOf(first, number), incarnationOf(process, number)];
@@ -157,7 +179,7 @@ class Recorder {
     let recorder;
     try {
       const made = { out, notes: notes ? openedFile(notesOf(file), true) : undefined };
-      recorder = Recorder.#over(name, made, opened);
+      recorder = Recorder.#over(name, made, limits, opened);
       if (number > 1) recorder.receive(endingOf(incarnationOf(process, number - 1)));
       fs.renameSync(part, file);
       return recorder;
@@ -171,16 +193,21 @@ class Recorder {
   /**
    * Records to `monitor serve` on a port of this machine, which may listen up to ten seconds later, or as many as are
    * given; if nobody does by then, it is an error with the code ECONNREFUSED. A later call waits, and keeps the whole
-   * thread waiting, while the monitor doesn't read.
+   * thread waiting, while the monitor doesn't read. It is refused with MONITOR_LONG=1, since a long recording is
+   * reduced before it is judged.
    */
   static async toPort(process, port, { seconds = PATIENCE_SECONDS } = {}) {
-    return Recorder.#toAddress(process, { host: HERE, port }, seconds);
+    return Recorder.#toAddress(process, { host: HERE, port }, `the port is ${port}`, seconds, {});
   }
 
-  static async #toAddress(process, address, seconds) {
+  static async #toAddress(process, address, said, seconds, options) {
     checkedName("process", process);
+    if (limitsOf(options) === LONG) {
+      const instead = "record a long run to a folder, and reduce it by monitor_reduce.py; MONITOR_LONG is 1 for one";
+      throw new NotRecorded("long", `${said}, and monitor serve judges within the limits of a session: ${instead}`);
+    }
     const opened = () => ({ out: Connection.now(address, seconds) });
-    return Recorder.#over(process, { out: await Connection.to(address, seconds) }, opened);
+    return Recorder.#over(process, { out: await Connection.to(address, seconds) }, SESSION, opened);
   }
 
   /**
@@ -188,17 +215,18 @@ class Recorder {
    * a new file NAME.stream in a folder of this name, which is made if there is none; or to `monitor serve`, on a port
    * of this machine, of :7411 or localhost:7411, on one of another machine, of host:7411 or [fe80::1]:7411, or by a
    * Unix socket, of unix:/run/monitor.sock. With MONITOR_NOTES=1 each event gets a note beside the file. A connection
-   * has no place for notes, and keeps no earlier incarnation, so `again` and notes are refused with one. What has a
-   * colon and no slash is no folder.
+   * has no place for notes, keeps no earlier incarnation, and is judged within the limits of a session, so notes,
+   * `again` and `long` are refused with one. What has a colon and no slash is no folder.
    */
-  static async fromEnvironment(process, { again = false, replace = false } = {}) {
+  static async fromEnvironment(process, { again = false, long = false, replace = false } = {}) {
     checkedName("process", process);
     const place = environment.MONITOR_TO ?? "";
     const notes = hasNotes(environment.MONITOR_NOTES ?? "");
     const address = addressOf(place);
+    limitsOf({ long });
     if (address === undefined) {
       fs.mkdirSync(place, { recursive: true });
-      return Recorder.toFile(process, path.join(place, process + ENDING), { again, notes, replace });
+      return Recorder.toFile(process, path.join(place, process + ENDING), { again, long, notes, replace });
     }
     if (notes) {
       const instead = "unset MONITOR_NOTES, or let MONITOR_TO name a folder";
@@ -208,12 +236,12 @@ class Recorder {
       const only = "only a folder has the recording of an earlier incarnation";
       throw new NotRecorded("again", `MONITOR_TO is the connection ${place}, and ${only}`);
     }
-    return Recorder.#toAddress(process, address, PATIENCE_SECONDS);
+    return Recorder.#toAddress(process, address, `MONITOR_TO is ${place}`, PATIENCE_SECONDS, { long });
   }
 
-  static #over(process, { out, notes }, opened) {
+  static #over(process, { out, notes }, limits, opened) {
     try {
-      const recorder = new Recorder(process, out);
+      const recorder = new Recorder(process, out, limits);
       recorder.#notes = notes;
       recorder.#family.opened = opened;
       return recorder;
@@ -262,12 +290,12 @@ class Recorder {
 
   /** The same, with an id that no other send of the session has. */
   sendAs(message, variables = {}, options) {
-    this.#record("send", checkedId(message), variables, { text: textIn(options) });
+    this.#record("send", checkedId(message, this.#limits), variables, { text: textIn(options) });
   }
 
   /** A message has come, with this id: call it AFTER that. A second copy of a message is refused as `id-twice`. */
   receive(message, variables = {}, options) {
-    this.#record("recv", checkedId(message), variables, { text: textIn(options) });
+    this.#record("recv", checkedId(message, this.#limits), variables, { text: textIn(options) });
   }
 
   /**
@@ -351,7 +379,7 @@ class Recorder {
 
   #begun(name) {
     this.#checkRoom();
-    const strand = Recorder.#over(name, this.#family.openedFor(name));
+    const strand = Recorder.#over(name, this.#family.openedFor(name), this.#limits);
     strand.#family = this.#family;
     strand.#isStrand = true;
     strand.#begunAt = this.#notes && placeOfCaller();
@@ -382,9 +410,11 @@ class Recorder {
   /** One of a strand's events is kept for its end. */
   #checkRoom() {
     this.#checkOpen();
-    if (this.#events >= EVENT_LIMIT - Number(this.#isStrand)) {
-      const most = `no process may have more than ${EVENT_LIMIT}, and the last one of a strand is its end`;
-      throw new NotRecorded("events", `${this.#process} has ${this.#events} events: ${most}`);
+    const limit = this.#limits.events;
+    if (this.#events >= limit - Number(this.#isStrand)) {
+      const most = `no process may have more than ${limit}, of which the last one of a strand is its end`;
+      const advice = this.#limits === SESSION ? `; record fewer, ${AS_A_LONG_RUN}` : "";
+      throw new NotRecorded("events", `${this.#process} has ${this.#events} events, and ${most}${advice}`);
     }
   }
 
@@ -432,11 +462,26 @@ class Recorder {
     this.#notes.write(noteOf(this.#process, this.#events + 1, text, place || placeOfCaller() || at));
   }
 
-  // With the limits above no line has over 1,400 bytes, and no stream over 14,000,000: monitor takes more.
+  // With the limits above no line has over 1,400 bytes, and no stream over 14,000,000: monitor takes more. A line of a
+  // long recording has at most 7,200.
   #write(line) {
     this.#state = BROKEN;
     this.#out.write(`${line}\n`);
     this.#state = OPEN;
+  }
+}
+
+/** Ids, in as many sets as they need: a long recording may have more than one has room for. */
+class Ids {
+  #sets = [new Set()];
+
+  has(id) {
+    return this.#sets.some((set) => set.has(id));
+  }
+
+  add(id) {
+    if (this.#sets.at(-1).size === SET_LIMIT) this.#sets.push(new Set());
+    this.#sets.at(-1).add(id);
   }
 }
 
@@ -559,11 +604,13 @@ class Fifo {
 class Family {
   opened; // gives that to which the strand of a name is recorded, if there is a place for it
   #process;
+  #limits;
   #strands = [];
   #names = new Set();
 
-  constructor(process) {
+  constructor(process, limits) {
     this.#process = process;
+    this.#limits = limits;
     this.#names.add(process);
   }
 
@@ -572,9 +619,10 @@ class Family {
       const advice = "give each strand a name of its own";
       throw new NotRecorded("name-twice", `${name} is another process of this recording: ${advice}`);
     }
-    if (this.#names.size === PROCESS_LIMIT) {
-      const most = `${PROCESS_LIMIT} processes, and a session has at most as many`;
-      throw new NotRecorded("processes", `${this.#process} and its strands are ${most}`);
+    if (this.#names.size === this.#limits.processes) {
+      const advice = `a session has at most as many; begin fewer strands, ${AS_A_LONG_RUN}`;
+      const all = `${this.#process} and its strands are ${this.#names.size} processes`;
+      throw new NotRecorded("processes", `${all}, and ${this.#limits === SESSION ? advice : "there can be no more"}`);
     }
     if (this.opened === undefined) {
       const advice = "make its recorder by toFile or toPort";
@@ -1009,11 +1057,21 @@ function kindOf(value) {
   return isObject ? `of type ${value.constructor?.name ?? "object"}` : String(value).slice(0, SHOWN);
 }
 
-function checkedId(id) {
+/** The limits of a recording that is a long one if the options or MONITOR_LONG say so. */
+function limitsOf({ long = false }) {
+  const text = environment.MONITOR_LONG ?? "";
+  if (!["", "0", "1"].includes(text)) {
+    const shown = JSON.stringify(text.slice(0, SHOWN));
+    throw new NotRecorded("long", `MONITOR_LONG is ${shown}, and is 1 for a long recording, or else 0`);
+  }
+  return long || text === "1" ? LONG : SESSION;
+}
+
+function checkedId(id, { idBytes }) {
   if (typeof id !== "string") throw new NotRecorded("id", `the id of a message must be a text, and is a ${typeof id}`);
   const bytes = Buffer.from(id);
-  if (bytes.length < 1 || bytes.length > ID_BYTE_LIMIT) {
-    throw new NotRecorded("id", `the id of a message has 1 to ${ID_BYTE_LIMIT} bytes, and this one ${bytes.length}`);
+  if (bytes.length < 1 || bytes.length > idBytes) {
+    throw new NotRecorded("id", `the id of a message has 1 to ${idBytes} bytes, and this one ${bytes.length}`);
   }
   if (bytes.toString() !== id) throw new NotRecorded("id", `${JSON.stringify(id)} can't be written in UTF-8`);
   return id;
@@ -1041,5 +1099,8 @@ module.exports = {
   PROCESS_LIMIT,
   NAME_BYTE_LIMIT,
   ID_BYTE_LIMIT,
+  LONG_EVENT_LIMIT,
+  LONG_PROCESS_LIMIT,
+  LONG_ID_BYTE_LIMIT,
   NOTE_BYTE_LIMIT,
 };

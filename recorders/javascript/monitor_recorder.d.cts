@@ -10,6 +10,12 @@ export const PROCESS_LIMIT: 16;
 export const NAME_BYTE_LIMIT: 32;
 /** At most so many bytes of UTF-8 has the id of a message, and at least one. */
 export const ID_BYTE_LIMIT: 64;
+/** At most so many events has a process of a long recording. */
+export const LONG_EVENT_LIMIT: 2_147_483_647;
+/** At most so many processes are a process of a long recording and its strands. */
+export const LONG_PROCESS_LIMIT: 4_096;
+/** At most so many bytes of UTF-8 has the id of a message in a long recording. */
+export const LONG_ID_BYTE_LIMIT: 1_024;
 /** At most so many bytes of UTF-8 has a note of its text, and of its place's file: what is longer is cut. */
 export const NOTE_BYTE_LIMIT: 1_024;
 
@@ -25,9 +31,9 @@ export type Reason =
   | "settings"
   /** A process has at most 16 variables. */
   | "variables"
-  /** A process has at most 10,000 events. The last one of a strand is kept for its end. */
+  /** A process has at most 10,000 events, or 2,147,483,647 in a long recording. The last one of a strand is its end. */
   | "events"
-  /** The id of a message has 1 to 64 bytes of UTF-8. */
+  /** The id of a message has 1 to 64 bytes of UTF-8, or 1,024 in a long recording. */
   | "id"
   /** The process has sent or received a message with this id before, so a receipt is that of a second copy. */
   | "id-twice"
@@ -35,7 +41,7 @@ export type Reason =
   | "ended"
   /** The name is that of the process or of another strand of it. */
   | "name-twice"
-  /** A process and its strands are at most 16. */
+  /** A process and its strands are at most 16, or 4,096 in a long recording. */
   | "processes"
   /** The recorder was made for an open file, so there is no place for the stream of a strand. */
   | "no-place"
@@ -47,6 +53,8 @@ export type Reason =
   | "running"
   /** No earlier incarnation can be told, as of a connection, of a file that is replaced, or on this system. */
   | "again"
+  /** A long recording goes to no connection, or MONITOR_LONG is neither 1 nor 0. */
+  | "long"
   /** There is no place for notes, as at a port, or MONITOR_NOTES is neither 1 nor 0. */
   | "notes"
   /** What stands where a note may is none, as { note: "a text" }. */
@@ -103,18 +111,19 @@ export type Noted = Readonly<{ note: string }>;
 /** The recording of one process, or of a strand of one. It writes its first line when it is made. */
 export class Recorder {
   /** Records to a file, a pipe or the like that is open for writing, which is closed with the recorder. */
-  constructor(process: string, descriptor: number);
+  constructor(process: string, descriptor: number, options?: { long?: boolean });
 
   /**
    * Records to a new file. One that is there already is an error with the code EEXIST; with `replace` it is lost, with
    * its notes. With `notes` each event gets a note, in a file beside: that of `left.stream` is `left.notes.jsonl`. The
    * path has to end with `.stream` then. docs/RECORDING.md has the format. With `again` a further incarnation is
-   * recorded, as of `left` and `left.stream` the second one is `left_2` in `left_2.stream`.
+   * recorded, as of `left` and `left.stream` the second one is `left_2` in `left_2.stream`. With `long`, or
+   * MONITOR_LONG=1 in the environment, it is a long recording, which monitor_reduce.py reduces before it is judged.
    */
   static toFile(
     process: string,
     path: string,
-    options?: { again?: boolean; notes?: boolean; replace?: boolean },
+    options?: { again?: boolean; long?: boolean; notes?: boolean; replace?: boolean },
   ): Recorder;
 
   /**
@@ -129,10 +138,13 @@ export class Recorder {
    * a new file NAME.stream in a folder of this name, which is made if there is none; or to `monitor serve`, on a port
    * of this machine, of :7411 or localhost:7411, on one of another machine, of host:7411 or [fe80::1]:7411, or by a
    * Unix socket, of unix:/run/monitor.sock. With MONITOR_NOTES=1 each event gets a note beside the file. A connection
-   * has no place for notes, and keeps no earlier incarnation, so `again` and notes are refused with one. What has a
-   * colon and no slash is no folder.
+   * has no place for notes, keeps no earlier incarnation, and is judged within the limits of a session, so notes,
+   * `again` and `long` are refused with one. What has a colon and no slash is no folder.
    */
-  static fromEnvironment(process: string, options?: { again?: boolean; replace?: boolean }): Promise<Recorder>;
+  static fromEnvironment(
+    process: string,
+    options?: { again?: boolean; long?: boolean; replace?: boolean },
+  ): Promise<Recorder>;
 
   /** The recorder with which this code was called by `within` or `strand`, or undefined. */
   static current(): Recorder | undefined;

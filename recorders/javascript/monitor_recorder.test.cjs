@@ -10,7 +10,7 @@ const { test } = require("node:test");
 const { setTimeout: sleep } = require("node:timers/promises");
 const recording = require("./monitor_recorder.cjs");
 
-const { NotRecorded, RecordedLock, RecordedQueue, Recorder } = recording;
+const { LONG_ID_BYTE_LIMIT, NotRecorded, RecordedLock, RecordedQueue, Recorder } = recording;
 const FILE = path.join(__dirname, "monitor_recorder.cjs");
 const EXAMPLES = path.join(__dirname, "..", "..", "examples");
 const MONITOR = path.resolve(process.env.MONITOR ?? path.join(EXAMPLES, "..", "crates", "monitor", "out", "monitor"));
@@ -131,6 +131,16 @@ test("after a line that could not be written nothing is", () => {
   refused("broken", () => recorder.end());
   assert.equal(recorder.events, 0);
   assert.equal(fs.readFileSync(at, "utf8"), JOIN);
+});
+
+test("a long recording to a file that is open", () => {
+  const at = newPath();
+  const id = "x".repeat(LONG_ID_BYTE_LIMIT);
+  const recorder = new Recorder("left", fs.openSync(at, "wx"), { long: true });
+  recorder.receive(id);
+  refused("id", () => recorder.sendAs(`${id}x`));
+  recorder.end();
+  assert.equal(fs.readFileSync(at, "utf8"), `${JOIN}{"recv":"${id}"}\n${END}`);
 });
 
 test("a pipe that is full, and doesn't make a writer wait", async () => {

@@ -31,6 +31,9 @@ export async function takes(descriptor: number): Promise<Reason | undefined> {
   Recorder.toFile("fourth", "fourth.stream", { again: true }).end();
   (await Recorder.fromEnvironment("fifth", { again: true })).end();
   new Recorder("other", descriptor).end();
+  Recorder.toFile("sixth", "sixth.stream", { long: true }).end();
+  (await Recorder.fromEnvironment("seventh", { long: true })).end();
+  new Recorder("eighth", descriptor, { long: true }).end();
   return undefined;
 }
 
@@ -59,6 +62,8 @@ export function refuses(left: Recorder): void {
   left.event({ inside: 1 }, "a text");
   // @ts-expect-error: a port has no place for notes
   Recorder.toPort("right", 7411, { notes: true });
+  // @ts-expect-error: a long recording goes to no port
+  Recorder.toPort("right", 7411, { long: true });
   // @ts-expect-error: a receipt has an id
   left.receive();
   // @ts-expect-error: what is recorded is not for others to set

@@ -6,6 +6,7 @@ const { NotRecorded, RecordedLock, RecordedQueue, Recorder } = require("./monito
 
 let recorder;
 let recorders;
+let refusal = ""; // the text of the last one
 let options; // of the call, if it has a note
 let locks; // what tasks share, by its names
 let queues;
@@ -19,6 +20,9 @@ const calls = {
     begin(process, Recorder.toFile(textOf(process), textOf(path), { again: true, notes: true })),
   place: (process, place) => callAt(process, place),
   "again-at": (process, place) => callAt(process, place, { again: true }),
+  long: (process, path) => begin(process, Recorder.toFile(textOf(process), textOf(path), { long: true })),
+  "long-at": (process, place) => callAt(process, place, { long: true }),
+  said: () => refusal,
   port: async (process, port, seconds) =>
     begin(process, await Recorder.toPort(textOf(process), Number(port), { seconds: Number(seconds) })),
   strand: (name) => void recorders.set(name, recorder.strand(textOf(name))),
@@ -165,7 +169,10 @@ async function answer(call, words) {
     const given = await calls[call](...words);
     return given === undefined ? "recorded" : `recorded ${given}`;
   } catch (error) {
-    if (error instanceof NotRecorded) return `refused ${error.reason}`;
+    if (error instanceof NotRecorded) {
+      refusal = error.message;
+      return `refused ${error.reason}`;
+    }
     if (error.syscall) return "failed";
     throw error;
   }

@@ -136,7 +136,7 @@ static void give_up(const char *reason)
 
 static void look_at(monitor_status status)
 {
-    char reason[200];
+    char reason[400];
     if (status == MONITOR_RECORDED)
         return;
     snprintf(reason, sizeof reason, "%s%s%s", monitor_text(status), status == MONITOR_SYSTEM ? ": " : "",

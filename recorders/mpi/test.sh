@@ -88,6 +88,15 @@ refuses() {
   grep -q "rank0: nothing is recorded: MONITOR_TO names no place" said || fail "nobody says that MONITOR_TO isn't set"
 }
 
+# A long run has more events than a process of a session may have.
+long_runs() {
+  MONITOR_LONG=1 run 2 many && [ ! -s said ] || { cat said; fail "a long run isn't recorded"; }
+  [ "$(wc -l < recorded/rank1.stream)" -gt 10002 ] || fail "a long run has no more events"
+  MONITOR_LONG=2 run 2 nothing
+  grep -q "rank0: nothing is recorded: no long recording is made: MONITOR_LONG is 1" said && [ ! -e recorded ] \
+    || fail "MONITOR_LONG=2 is taken"
+}
+
 # A rank that is killed leaves what it has recorded, and one that ends its recording has an end line.
 ends() {
   run 2 killed
@@ -106,6 +115,7 @@ mpicc $flags -o program "$here/test_monitor_mpi.c" || fail "the test isn't compi
 records 1 2
 notes
 refuses
+long_runs
 ends
 
 # Without the recorder the program does the same; and the recorder may be linked, also to what is not position

@@ -19,9 +19,13 @@ is taken for a cause:
         worker.event(busy=1)
     recorder.join(worker)                         # AFTER the thread or task has been waited for
 
+A session has limits, and a recording that is over them is refused at the call. With `long=True`, or MONITOR_LONG=1 in
+the environment, it is a long recording, of any length, which monitor_reduce.py reduces before it is judged.
+
 Events have no names. With `notes=True` each has a note in left.notes.jsonl, of the line of the program that recorded
 it, and of a text if one is given, as by `recorder.event(inside=1, note="the lock is ours")`.
 """
+import collections
 import contextlib
 import contextvars
 import errno
@@ -47,6 +51,10 @@ VARIABLE_LIMIT = 16
 PROCESS_LIMIT = 16
 NAME_BYTE_LIMIT = 32
 ID_BYTE_LIMIT = 64
+# The limits of a long recording.
+LONG_EVENT_LIMIT = 2_147_483_647
+LONG_PROCESS_LIMIT = 4_096
+LONG_ID_BYTE_LIMIT = 1_024
 LEAST_VALUE, GREATEST_VALUE = -(2**63), 2**63 - 1
 NAME = re.compile(r"[A-Za-z_][A-Za-z0-9_]*")
 RESERVED = frozenset(["and", "or", "not", "true", "false"])
@@ -61,7 +69,7 @@ NOTE_BYTE_LIMIT = 1_024
 # Besides what JSON escapes these are: a terminal takes some for commands, and what reads lines others for their ends.
 ESCAPED = re.compile("[\x7f-\x9f\u2028\u2029]")
 SURROGATE = re.compile("[\ud800-\udfff]")
-PLACE, WITH_NOTES = "MONITOR_TO", "MONITOR_NOTES"
+PLACE, WITH_NOTES, AS_LONG = "MONITOR_TO", "MONITOR_NOTES", "MONITOR_LONG"
 # A port: of this machine, or of another one by its name or address. One of IPv6 stands in brackets.
 PORT = re.compile(r"\A(?:\[([0-9A-Fa-f:.]+(?:%[A-Za-z0-9._-]+)?)\]|([A-Za-z0-9._-]*)):([0-9]{1,5})")
 PORT_LIMIT = 65_534
@@ -71,6 +79,11 @@ HERE, OWN_HOSTS = "127.0.0.1", ("", "localhost")
 NOBODY = (ConnectionRefusedError, FileNotFoundError)
 PLACES = f"a folder, a port as :7411, host:7411 or [::1]:7411, from 1 to {PORT_LIMIT}, or a socket as unix:/run/a.sock"
 OPEN, CLOSED, BROKEN = "open", "closed", "broken off, since a line could not be written"
+# At most so many events has a process, so many processes have a recorder and its strands, and so many bytes has an id.
+Limits = collections.namedtuple("Limits", "events processes id_bytes")
+SESSION = Limits(EVENT_LIMIT, PROCESS_LIMIT, ID_BYTE_LIMIT)
+LONG = Limits(LONG_EVENT_LIMIT, LONG_PROCESS_LIMIT, LONG_ID_BYTE_LIMIT)
+AS_A_LONG_RUN = f"record it as a long run: long=True or {AS_LONG}=1, and reduce it by monitor_reduce.py"
 CURRENT = contextvars.ContextVar("monitor_recorder", default=None)
 
 
@@ -96,16 +109,23 @@ class Recorder:
 
     If `variables` is given, no other variable may be set; otherwise any 16 may.
 
+    With `long`, or MONITOR_LONG=1 in the environment, it is a long recording: it may have 2,147,483,647 events, 4,096
+    processes with its strands, and ids of 1,024 bytes, and has to be reduced by monitor_reduce.py before it is judged.
+
     Other threads may record too, but no signal handler. Hold `lock`, by `with recorder.lock:`, if an event and its line
     must stay together.
     """
 
-    _event_limit = EVENT_LIMIT
+    _kept_events = 0
 
-    def __init__(self, process, out, variables=None):
+    def __init__(self, process, out, variables=None, long=False):
+        self._begin(process, out, variables, limits_of(long))
+        self._family = Family(self)
+
+    def _begin(self, process, out, variables, limits):
         self.process = checked_name("process", process)
         self.lock = threading.RLock()
-        self._family = Family(self)
+        self._limits = limits
         self._last = None
         self._outer = []
         self._variables = checked_variables(variables)
@@ -121,7 +141,7 @@ class Recorder:
         self._state = OPEN
 
     @classmethod
-    def to_file(cls, process, path, variables=None, replace=False, again=False, notes=False):
+    def to_file(cls, process, path, variables=None, replace=False, again=False, notes=False, long=False):
         """Records to a new file. One that is there already is a FileExistsError, unless it is to be replaced, with its
         notes.
 
@@ -133,6 +153,8 @@ class Recorder:
         second one is `left_2` in `left_2.stream`. Its first event receives the message `left-ended`, by which it comes
         after all that the one before did; monitor_mend adds the send. It is refused while the one before still runs,
         and on a system without POSIX's locks.
+
+        With `long` it is a long recording, as that of the constructor.
         """
         if replace and again:
             raise NotRecorded("again: a file that is replaced has no recording of an earlier incarnation")
@@ -150,11 +172,11 @@ class Recorder:
             if fcntl is None:
                 raise NotRecorded("again: this system has no locks by which it is seen that an earlier incarnation has "
                                   "ended")
-            return cls._incarnation(process, path, variables, notes, opened_for)
-        return cls._over(process, variables, opened, opened_for)
+            return cls._incarnation(process, path, variables, notes, long, opened_for)
+        return cls._over(process, variables, long, opened, opened_for)
 
     @classmethod
-    def _incarnation(cls, process, path, variables, notes, opened_for):
+    def _incarnation(cls, process, path, variables, notes, long, opened_for):
         number = next(number for number in itertools.count(1) if not os.path.lexists(path_of(path, number)))
         if number > 1:
             refuse_running(incarnation_of(process, number - 1), path_of(path, number - 1))
@@ -168,7 +190,7 @@ class Recorder:
 
         try:
             name = incarnation_of(process, number)
-            recorder = cls._over(name, variables, opened, opened_for)
+            recorder = cls._over(name, variables, long, opened, opened_for)
             if number > 1:
                 recorder.receive(ending_of(incarnation_of(process, number - 1)))
             os.rename(part, path_of(path, number))
@@ -183,43 +205,50 @@ class Recorder:
     @classmethod
     def to_port(cls, process, port, variables=None, seconds=CONNECT_SECONDS):
         """Records to `monitor serve` on a port of this machine. If nobody listens there yet, it is tried again until
-        these seconds have passed, and then is an OSError. A call waits while the monitor doesn't read."""
+        these seconds have passed, and then is an OSError. A call waits while the monitor doesn't read. It is refused
+        with MONITOR_LONG=1, since a long recording is reduced before it is judged."""
         return cls._to_address(process, (HERE, port), f"the port is {port}", variables, seconds)
 
     @classmethod
-    def _to_address(cls, process, address, said, variables, seconds):
-        return cls._over(process, variables, lambda: (connection_to(address, said, seconds), None),
+    def _to_address(cls, process, address, said, variables, seconds, long=False):
+        checked_name("process", process)
+        if limits_of(long) is LONG:
+            raise NotRecorded(f"long: {said}, and monitor serve judges within the limits of a session: record a long "
+                              f"run to a folder, and reduce it by monitor_reduce.py; {AS_LONG} is 1 for one")
+        return cls._over(process, variables, False, lambda: (connection_to(address, said, seconds), None),
                          lambda _name: (connection_to(address, said, seconds), None))
 
     @classmethod
-    def from_environment(cls, process, variables=None, replace=False, again=False):
+    def from_environment(cls, process, variables=None, replace=False, again=False, long=False):
         """Records to where MONITOR_TO in the environment says, so that no code changes between a test and a live
         session: to a new file NAME.stream in a folder of this name, which is made if there is none; or to `monitor
         serve`, on a port of this machine, of :7411 or localhost:7411, on one of another machine, of host:7411 or
         [fe80::1]:7411, or by a Unix socket, of unix:/run/monitor.sock. With MONITOR_NOTES=1 each event gets a note
-        beside the file. A connection has no place for notes, and keeps no earlier incarnation, so `again` and notes are
-        refused with one. What has a colon and no slash is no folder."""
+        beside the file. A connection has no place for notes, keeps no earlier incarnation, and is judged within the
+        limits of a session, so notes, `again` and `long` are refused with one. What has a colon and no slash is no
+        folder."""
         checked_name("process", process)
         place, notes = os.environ.get(PLACE, ""), has_notes(os.environ.get(WITH_NOTES, ""))
-        address = address_of(place)
+        address, is_long = address_of(place), limits_of(long) is LONG
         if address is None:
             os.makedirs(place, exist_ok=True)
-            return cls.to_file(process, os.path.join(place, f"{process}.stream"), variables, replace, again, notes)
+            path = os.path.join(place, f"{process}.stream")
+            return cls.to_file(process, path, variables, replace, again, notes, is_long)
         if notes:
             raise NotRecorded(f"{WITH_NOTES} is 1, and notes go to a file beside the stream, but {PLACE} is the "
                               f"connection {place}: unset {WITH_NOTES}, or let {PLACE} name a folder")
         if again:
             raise NotRecorded(f"again: {PLACE} is the connection {place}, and only a folder has the recording of an "
                               "earlier incarnation")
-        return cls._to_address(process, address, f"{PLACE} is {place}", variables, CONNECT_SECONDS)
+        return cls._to_address(process, address, f"{PLACE} is {place}", variables, CONNECT_SECONDS, is_long)
 
     @classmethod
-    def _over(cls, process, variables, opened, opened_for):
+    def _over(cls, process, variables, long, opened, opened_for):
         checked_name("process", process)
-        declared = checked_variables(variables)
+        declared, is_long = checked_variables(variables), limits_of(long) is LONG
         out, notes = opened()
         try:
-            recorder = cls(process, out, declared)
+            recorder = cls(process, out, declared, is_long)
         except BaseException:
             close_all(out, notes)
             raise
@@ -361,9 +390,11 @@ class Recorder:
             raise NotRecorded(f"{self.process} is recorded by the process of which this one is a fork")
 
     def _refuse_full(self):
-        if self._events >= self._event_limit:
-            raise NotRecorded(f"{self.process} has {self._events} events: no process may have more than {EVENT_LIMIT} "
-                              "events, and the last one of a strand is its end")
+        limit = self._limits.events
+        if self._events >= limit - self._kept_events:
+            advice = f"; record fewer, or {AS_A_LONG_RUN}" if self._limits is SESSION else ""
+            raise NotRecorded(f"{self.process} has {self._events} events, and no process may have more than {limit} "
+                              f"events, of which the last one of a strand is its end{advice}")
 
     def _send(self, message, variables):
         made = self._made
@@ -408,8 +439,9 @@ class Recorder:
             size = len(message.encode())
         except UnicodeEncodeError:
             raise NotRecorded(f"the id {message[:80]!r} can't be written in UTF-8") from None
-        if not 1 <= size <= ID_BYTE_LIMIT:
-            raise NotRecorded(f"the id of a message has 1 to {ID_BYTE_LIMIT} bytes, and {message[:80]!r} has {size}")
+        limit = self._limits.id_bytes
+        if not 1 <= size <= limit:
+            raise NotRecorded(f"the id of a message has 1 to {limit} bytes, and {message[:80]!r} has {size}")
         if message in self._ids:
             raise IdTwice(f"{self.process} has sent or received {message!r} before")
         return message
@@ -420,7 +452,8 @@ class Recorder:
         write_all(self._notes, note_of(self.process, self._events + 1, text, place_of_caller(), time.time_ns()))
 
     def _write(self, line):
-        # With the limits above no line has over 1,400 bytes, and no stream over 14,000,000: monitor takes more.
+        # With the limits above no line has over 1,400 bytes, and no stream over 14,000,000: monitor takes more. A line
+        # of a long recording has at most 7,200.
         text = json.dumps(line, ensure_ascii=False, separators=(",", ":")).encode() + b"\n"
         self._state = BROKEN
         if hasattr(self._out, "sendall"):
@@ -432,10 +465,10 @@ class Recorder:
 class Strand(Recorder):
     """A recorder that another one has begun. One of its events is kept for its end."""
 
-    _event_limit = EVENT_LIMIT - 1
+    _kept_events = 1
 
     def __init__(self, process, out, variables, family):
-        super().__init__(process, out, variables)
+        self._begin(process, out, variables, family.limits)
         self._family = family
 
     def close(self):
@@ -539,6 +572,7 @@ class Family:
 
     def __init__(self, process):
         self.opened_for = None  # opens the stream of a strand with this name, if there is a place for it
+        self.limits = process._limits
         self._process = process
         self._lock = threading.Lock()
         self._names = {process.process}
@@ -565,9 +599,10 @@ class Family:
             raise NotRecorded(f"the recording of {self._process.process} is closed")
         if name in self._names:
             raise NotRecorded(f"{name} is another process of this recording: give each strand a name of its own")
-        if len(self._names) == PROCESS_LIMIT:
-            raise NotRecorded(f"{self._process.process} and its strands are {PROCESS_LIMIT} processes, and a session "
-                              "has at most as many")
+        if len(self._names) == self.limits.processes:
+            why = (f"a session has at most as many; begin fewer strands, or {AS_A_LONG_RUN}"
+                   if self.limits is SESSION else "there can be no more")
+            raise NotRecorded(f"{self._process.process} and its strands are {len(self._names)} processes, and {why}")
         if self.opened_for is None:
             raise NotRecorded(f"{self._process.process} records to a file that it was given, so there is no place for "
                               "the stream of a strand: make its recorder by to_file or to_port")
@@ -624,6 +659,14 @@ def new_file(path, replace):
 def already(path):
     return FileExistsError(errno.EEXIST, "a recording is there already, and isn't written over: record to another "
                                          "file or folder, remove it, or say replace=True", os.fspath(path))
+
+
+def limits_of(long):
+    """The limits of a recording that is a long one if this or MONITOR_LONG says so."""
+    text = os.environ.get(AS_LONG, "")
+    if text not in ("", "0", "1"):
+        raise NotRecorded(f"long: {AS_LONG} is {text[:SHOWN]!r}, and is 1 for a long recording, or else 0")
+    return LONG if long or text == "1" else SESSION
 
 
 # Notes

@@ -15,7 +15,7 @@ REFUSALS = {"process-name": "no name of a process", "variable-name": "no name of
             "value": "must be a whole", "variables": "16 variables", "events": "10000 events", "id": "the id",
             "id-twice": "before", "ended": "is closed", "broken": "is broken off",
             "name-twice": "another process of this recording", "processes": "16 processes",
-            "not-ended": "no strand that has ended", "running": "still runs", "again": "again: ",
+            "not-ended": "no strand that has ended", "running": "still runs", "again": "again: ", "long": "long: ",
             "place": "MONITOR_TO is"}
 
 
@@ -34,6 +34,7 @@ class Player:
         self.recorder = None
         self.recorders = {}
         self.text = {}
+        self.refusal = ""
 
     def file(self, process, path):
         self.begin(process, Recorder.to_file(text_of(process), text_of(path)))
@@ -50,9 +51,16 @@ class Player:
     def noted_again(self, process, path):
         self.begin(process, Recorder.to_file(text_of(process), text_of(path), again=True, notes=True))
 
+    def long(self, process, path):
+        self.begin(process, Recorder.to_file(text_of(process), text_of(path), long=True))
+
     def place(self, process, place):
         os.environ["MONITOR_TO"] = text_of(place)
         self.begin(process, Recorder.from_environment(text_of(process)))
+
+    def long_at(self, process, place):
+        os.environ["MONITOR_TO"] = text_of(place)
+        self.begin(process, Recorder.from_environment(text_of(process), long=True))
 
     def again_at(self, process, place):
         os.environ["MONITOR_TO"] = text_of(place)
@@ -125,6 +133,9 @@ class Player:
 
     def events(self):
         return str(self.recorder.events)
+
+    def said(self):
+        return self.refusal
 
     def end(self):
         self.recorder.close()
@@ -205,6 +216,7 @@ class Player:
         try:
             given = self.make(call, *words)
         except NotRecorded as refusal:
+            self.refusal = str(refusal)
             return "refused " + next(word for word, text in REFUSALS.items() if text in str(refusal))
         except OSError:
             return "failed"

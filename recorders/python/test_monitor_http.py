@@ -19,6 +19,7 @@ from wsgiref.util import FileWrapper
 from wsgiref.validate import validator
 
 import monitor_http
+import monitor_recorder
 from judging import needs_program, report_of
 from monitor_http import RecordedWSGI, by_client, id_of_trace, record_client
 from monitor_recorder import Recorder, current
@@ -619,7 +620,7 @@ class Failures(Case):
         self.assertEqual(self.said.getvalue().count("\n"), 3)
 
     def test_a_process_that_has_too_many_events(self):
-        with mock.patch.object(Recorder, "_event_limit", 3):
+        with mock.patch.object(monitor_recorder, "SESSION", monitor_recorder.SESSION._replace(events=3)):
             _, _, url = self.both(greet)
             for _ in range(4):
                 self.assertEqual(asked(url)[2], b"hello")

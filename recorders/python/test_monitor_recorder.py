@@ -196,6 +196,29 @@ class Files(Case):
         with self.assertRaises(OSError):
             Recorder.to_file("left", "/dev/full", replace=True)
 
+    def test_a_long_recording(self):
+        id_of_its_own = "x" * monitor_recorder.LONG_ID_BYTE_LIMIT
+        recorder = Recorder("left", Parts(), long=True)
+        recorder.receive(id_of_its_own)
+        recorder.close()
+        with mock.patch.dict(os.environ, {"MONITOR_LONG": "1"}):
+            recorder = Recorder("left", Parts())
+            recorder.receive(id_of_its_own)
+        with mock.patch.dict(os.environ, {"MONITOR_LONG": "2"}), self.assertRaisesRegex(NotRecorded, "MONITOR_LONG is"):
+            Recorder("left", Parts())
+
+    def test_limits_of_long_recordings(self):
+        few = monitor_recorder.Limits(events=3, processes=2, id_bytes=64)
+        with mock.patch.object(monitor_recorder, "LONG", few):
+            recorder = Recorder.to_file("left", self.path, long=True)
+            strand = recorder.strand("worker")
+            with self.assertRaisesRegex(NotRecorded, "left and its strands are 2 processes, and there can be no more$"):
+                recorder.strand("other")
+            strand.event()
+            with self.assertRaisesRegex(NotRecorded, "worker has 2 events, .* more than 3 .* is its end$"):
+                strand.event()
+            recorder.close()
+
     def test_after_a_line_that_could_not_be_written_nothing_is(self):
         out = Parts(room=40)
         recorder = Recorder("left", out)
@@ -726,13 +749,18 @@ class Limits(unittest.TestCase):
     NAMES = {"event_limit": ("EVENT_LIMIT", "EventLimit"), "var_limit": ("VARIABLE_LIMIT", "VariableLimit"),
              "process_limit": ("PROCESS_LIMIT", "ProcessLimit"),
              "name_byte_limit": ("NAME_BYTE_LIMIT", "NameByteLimit"), "id_byte_limit": ("ID_BYTE_LIMIT", "IDByteLimit"),
-             "note_byte_limit": ("NOTE_BYTE_LIMIT", "NoteByteLimit")}
+             "note_byte_limit": ("NOTE_BYTE_LIMIT", "NoteByteLimit"),
+             "long_event_limit": ("LONG_EVENT_LIMIT", "LongEventLimit"),
+             "long_process_limit": ("LONG_PROCESS_LIMIT", "LongProcessLimit"),
+             "long_id_byte_limit": ("LONG_ID_BYTE_LIMIT", "LongIDByteLimit")}
 
     def setUp(self):
         with open(os.path.join(FOLDER, "..", "..", "crates", "def_format", "specs", "Limits.antt"),
                   encoding="utf-8") as file:
             self.limits = {name: int(number) for name, number in re.findall(r"^(\w+) = (\d+)$", file.read(), re.M)}
-        self.limits["note_byte_limit"] = 1_024  # of which the monitor doesn't know
+        # Of these the monitor doesn't know.
+        self.limits.update(note_byte_limit=1_024, long_event_limit=2**31 - 1, long_process_limit=4_096,
+                           long_id_byte_limit=1_024)
 
     def test_of_python(self):
         for limit, (name, _) in self.NAMES.items():

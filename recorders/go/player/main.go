@@ -41,8 +41,10 @@ var refusals = []struct {
 	{record.ErrVariables, "variables"}, {record.ErrEvents, "events"}, {record.ErrID, "id"},
 	{record.ErrIDTwice, "id-twice"}, {record.ErrEnded, "ended"}, {record.ErrBroken, "broken"},
 	{record.ErrNameTwice, "name-twice"}, {record.ErrProcesses, "processes"}, {record.ErrNotEnded, "not-ended"},
-	{record.ErrRunning, "running"}, {record.ErrAgain, "again"}, {record.ErrPlace, "place"},
+	{record.ErrRunning, "running"}, {record.ErrAgain, "again"}, {record.ErrPlace, "place"}, {record.ErrLong, "long"},
 }
+
+var refusalText string // that of the last one
 
 func main() {
 	lines := bufio.NewReader(os.Stdin)
@@ -66,6 +68,7 @@ func answer(given string, err error) string {
 	}
 	for _, refusal := range refusals {
 		if errors.Is(err, refusal.reason) && errors.Is(err, record.ErrNotRecorded) {
+			refusalText = err.Error()
 			return "refused " + refusal.word
 		}
 	}
@@ -84,8 +87,13 @@ func makeCall(call string, words []string) (given string, err error) {
 		err = openFile(words[0], words[1], record.Options{Again: true})
 	case "noted-again":
 		err = openFile(words[0], words[1], record.Options{Again: true, Notes: true})
-	case "place", "again-at":
-		err = openPlace(textOf(words[0]), textOf(words[1]), record.Options{Again: call == "again-at"})
+	case "long":
+		err = openFile(words[0], words[1], record.Options{Long: true})
+	case "place", "again-at", "long-at":
+		options := record.Options{Again: call == "again-at", Long: call == "long-at"}
+		err = openPlace(textOf(words[0]), textOf(words[1]), options)
+	case "said":
+		given = refusalText
 	case "note":
 		return callNoted(words[0], words[1], words[2:])
 	case "strand":

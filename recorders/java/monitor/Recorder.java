@@ -28,6 +28,7 @@ import java.nio.file.StandardOpenOption;
 import java.time.Duration;
 import java.time.Instant;
 import java.util.ArrayList;
+import java.util.Collection;
 import java.util.HashSet;
 import java.util.List;
 import java.util.Locale;
@@ -76,6 +77,10 @@ import java.util.regex.Pattern;
  * recorder.join(worker);                                // AFTER the thread has been waited for
  * }</pre>
  *
+ * <p>A session has limits, and a recording that is over them is refused at the call. With {@link Option#LONG}, or
+ * MONITOR_LONG=1 in the environment, it is a long recording, of any length, which monitor_reduce.py reduces before it
+ * is judged.
+ *
  * <p>Events have no names. With {@link Option#NOTES} each has a note in left.notes.jsonl, of the line of the program that
  * recorded it, and of a text if one is given, as by
  * {@code recorder.event(set("inside", 1), note("the lock is ours"))}.
@@ -94,6 +99,12 @@ public final class Recorder implements AutoCloseable {
     public static final int NAME_BYTE_LIMIT = 32;
     /** At most so many bytes of UTF-8 has the id of a message, and at least one. */
     public static final int ID_BYTE_LIMIT = 64;
+    /** At most so many events has a process of a long recording. */
+    public static final int LONG_EVENT_LIMIT = 2_147_483_647;
+    /** At most so many processes are a process of a long recording and its strands. */
+    public static final int LONG_PROCESS_LIMIT = 4_096;
+    /** At most so many bytes of UTF-8 has the id of a message in a long recording. */
+    public static final int LONG_ID_BYTE_LIMIT = 1_024;
     /** At most so many bytes of UTF-8 has a note of its text, and of its place's file: what is longer is cut. */
     public static final int NOTE_BYTE_LIMIT = 1_024;
 
@@ -115,6 +126,10 @@ public final class Recorder implements AutoCloseable {
     private static final String ENDING = ".stream";
     private static final String NOTES_ENDING = ".notes.jsonl";
     private static final ThreadLocal<Recorder> CURRENT = new ThreadLocal<>();
+    private static final Limits SESSION = new Limits(EVENT_LIMIT, PROCESS_LIMIT, ID_BYTE_LIMIT);
+    private static final Limits LONG = new Limits(LONG_EVENT_LIMIT, LONG_PROCESS_LIMIT, LONG_ID_BYTE_LIMIT);
+    private static final String AS_A_LONG_RUN =
+            "or record it as a long run: Option.LONG or MONITOR_LONG=1, and reduce it by monitor_reduce.py";
     private static final String OWN = Recorder.class.getPackageName() + ".Record";
 
     /** How a file is recorded to. */
@@ -133,7 +148,13 @@ public final class Recorder implements AutoCloseable {
          * message {@code left-ended}, by which it comes after all that the one before did; monitor_mend adds the send.
          * It is refused while the one before still runs.
          */
-        AGAIN
+        AGAIN,
+        /**
+         * It is a long recording: it may have 2,147,483,647 events, 4,096 processes with its strands, and ids of 1,024
+         * bytes, and has to be reduced by monitor_reduce.py before it is judged. MONITOR_LONG=1 in the environment says
+         * the same, of each recorder that is made.
+         */
+        LONG
     }
 
     /** Why a call was refused. */
@@ -144,9 +165,12 @@ public final class Recorder implements AutoCloseable {
         VARIABLE_NAME,
         /** A process has at most 16 variables. */
         VARIABLES,
-        /** A process has at most 10,000 events. The last one of a strand is kept for its end. */
+        /**
+         * A process has at most 10,000 events, or 2,147,483,647 in a long recording. The last one of a strand is kept
+         * for its end.
+         */
         EVENTS,
-        /** The id of a message has 1 to 64 bytes of UTF-8. */
+        /** The id of a message has 1 to 64 bytes of UTF-8, or 1,024 in a long recording. */
         ID,
         /** The process has sent or received a message with this id before, so a receipt is that of a second copy. */
         ID_TWICE,
@@ -156,7 +180,7 @@ public final class Recorder implements AutoCloseable {
         BROKEN,
         /** The name is that of the process or of another strand of it. */
         NAME_TWICE,
-        /** A process and its strands are at most 16. */
+        /** A process and its strands are at most 16, or 4,096 in a long recording. */
         PROCESSES,
         /** The recorder was made for an open stream, so there is no place for the stream of a strand. */
         NO_PLACE,
@@ -168,6 +192,8 @@ public final class Recorder implements AutoCloseable {
         RUNNING,
         /** No earlier incarnation can be told, as of a connection or of a file that is replaced. */
         AGAIN,
+        /** A long recording goes to no connection, or MONITOR_LONG is neither 1 nor 0. */
+        LONG,
         /** There is no place for notes, as at a port, or MONITOR_NOTES is neither 1 nor 0. */
         NOTES
     }
@@ -200,6 +226,10 @@ public final class Recorder implements AutoCloseable {
     public record Note(String text) implements Detail {
     }
 
+    /** So many events, processes and bytes of an id has a recording at most. */
+    private record Limits(int events, int processes, int idBytes) {
+    }
+
     /** What is written to; the notes are null if events have none. */
     private record Opened(OutputStream out, OutputStream notes) {
         void close() throws IOException {
@@ -224,6 +254,7 @@ public final class Recorder implements AutoCloseable {
     /** Where the notes of the events are written; null if they have none. */
     private final OutputStream notes;
     private final Family family;
+    private final Limits limits;
     private final boolean isStrand;
     private final Set<String> ids = new HashSet<>();
     private final Set<String> names = new HashSet<>();
@@ -236,18 +267,19 @@ public final class Recorder implements AutoCloseable {
 
     /**
      * Records to a file, a connection or whatever else takes bytes. Each line is flushed, and the stream is closed with
-     * the recorder.
+     * the recorder. Of the options only {@link Option#LONG} says anything of it.
      */
-    public Recorder(String process, OutputStream out) throws IOException {
-        this(process, new Opened(out, null), null);
+    public Recorder(String process, OutputStream out, Option... options) throws IOException {
+        this(process, new Opened(out, null), limitsOf(List.of(options)), null);
     }
 
-    private Recorder(String process, Opened opened, Family family) throws IOException {
+    private Recorder(String process, Opened opened, Limits limits, Family family) throws IOException {
         this.process = checkedProcess(process);
+        this.limits = limits;
         this.out = opened.out();
         this.notes = opened.notes();
         this.isStrand = family != null;
-        this.family = isStrand ? family : new Family(process);
+        this.family = isStrand ? family : new Family(process, limits);
         out.write(bytesOf("{\"process\":" + quoted(process) + "}"));
         out.flush();
     }
@@ -264,14 +296,16 @@ public final class Recorder implements AutoCloseable {
             throw refused(Reason.NOTES, path + " doesn't end with " + ENDING + ": notes of left" + ENDING
                     + " are in left" + NOTES_ENDING);
         }
-        Recorder recorder = all.contains(Option.AGAIN) ? incarnation(process, first, all)
-                : over(process, newFiles(first, all), null);
+        Limits limits = limitsOf(all);
+        Recorder recorder = all.contains(Option.AGAIN) ? incarnation(process, first, limits, all)
+                : over(process, newFiles(first, all), limits, null);
         recorder.family.place = name -> newFiles(checkedBeside(first, name, all), all);
         return recorder;
     }
 
     /** Records to the first file of the process that isn't there yet. */
-    private static Recorder incarnation(String process, Path first, Set<Option> options) throws IOException {
+    private static Recorder incarnation(String process, Path first, Limits limits, Set<Option> options)
+            throws IOException {
         if (options.contains(Option.REPLACE)) {
             throw refused(Reason.AGAIN, "a file that is replaced has no recording of an earlier incarnation");
         }
@@ -289,7 +323,7 @@ public final class Recorder implements AutoCloseable {
         Path part = newPart(path);
         Recorder recorder = null;
         try {
-            recorder = over(name, inPart(path, part, options), null);
+            recorder = over(name, inPart(path, part, options), limits, null);
             if (number > 1) {
                 recorder.receive(before + "-ended");
             }
@@ -416,7 +450,7 @@ public final class Recorder implements AutoCloseable {
     /**
      * Records to {@code monitor serve} on a port of this machine, 1 to 65,534, which may listen up to ten seconds
      * later; if nobody does by then, it is a {@link ConnectException}. A later call waits while the monitor doesn't
-     * read.
+     * read. It is refused with MONITOR_LONG=1, since a long recording is reduced before it is judged.
      */
     public static Recorder toPort(String process, int port) throws IOException {
         return toPort(process, port, PATIENCE);
@@ -424,13 +458,18 @@ public final class Recorder implements AutoCloseable {
 
     /** The same, with another time to wait for somebody who listens. */
     public static Recorder toPort(String process, int port, Duration patience) throws IOException {
-        return toAddress(process, new Address(HERE, port), patience);
+        return toAddress(process, new Address(HERE, port), patience, "the port is " + port, List.of());
     }
 
-    private static Recorder toAddress(String process, Address address, Duration patience) throws IOException {
+    private static Recorder toAddress(String process, Address address, Duration patience, String said,
+            List<Option> options) throws IOException {
         checkedProcess(process);
+        if (limitsOf(options) == LONG) {
+            throw refused(Reason.LONG, said + ", and monitor serve judges within the limits of a session: record a "
+                    + "long run to a folder, and reduce it by monitor_reduce.py; MONITOR_LONG is 1 for one");
+        }
         Place place = name -> new Opened(connectionTo(address, patience), null);
-        Recorder recorder = over(process, place.opened(process), null);
+        Recorder recorder = over(process, place.opened(process), SESSION, null);
         recorder.family.place = place;
         return recorder;
     }
@@ -440,8 +479,9 @@ public final class Recorder implements AutoCloseable {
      * to a new file {@code NAME.stream} in a folder of this name, which is made if there is none; or to {@code monitor
      * serve}, on a port of this machine, of {@code :7411} or {@code localhost:7411}, on one of another machine, of
      * {@code host:7411} or {@code [fe80::1]:7411}, or by a Unix socket, of {@code unix:/run/monitor.sock}. With
-     * MONITOR_NOTES=1 each event gets a note beside the file. A connection has no place for notes, and keeps no earlier
-     * incarnation, so both are refused with one. What has a colon and no slash is no folder.
+     * MONITOR_NOTES=1 each event gets a note beside the file. A connection has no place for notes, keeps no earlier
+     * incarnation, and is judged within the limits of a session, so with one {@link Option#NOTES}, {@link Option#AGAIN}
+     * and {@link Option#LONG} are refused. What has a colon and no slash is no folder.
      */
     public static Recorder fromEnvironment(String process, Option... options) throws IOException {
         String place = System.getenv().getOrDefault("MONITOR_TO", "");
@@ -461,6 +501,7 @@ public final class Recorder implements AutoCloseable {
     public static Recorder toPlace(String process, String place, Option... options) throws IOException {
         checkedProcess(process);
         Address address = addressOf(place);
+        limitsOf(List.of(options));
         if (address == null) {
             Path folder = Files.createDirectories(Path.of(place));
             return toFile(process, folder.resolve(process + ENDING), options);
@@ -473,7 +514,7 @@ public final class Recorder implements AutoCloseable {
             throw refused(Reason.AGAIN, "MONITOR_TO is the connection " + place
                     + ", and only a folder has the recording of an earlier incarnation");
         }
-        return toAddress(process, address, PATIENCE);
+        return toAddress(process, address, PATIENCE, "MONITOR_TO is " + place, List.of(options));
     }
 
     /** Where {@code monitor serve} listens: on the port of a host, or by a socket with a path, which has port 0. */
@@ -508,9 +549,9 @@ public final class Recorder implements AutoCloseable {
         return new Address(Set.of("", "localhost").contains(host) ? HERE : host, port);
     }
 
-    private static Recorder over(String process, Opened opened, Family family) throws IOException {
+    private static Recorder over(String process, Opened opened, Limits limits, Family family) throws IOException {
         try {
-            return new Recorder(process, opened, family);
+            return new Recorder(process, opened, limits, family);
         } catch (Throwable error) {
             opened.close();
             throw error;
@@ -726,14 +767,16 @@ public final class Recorder implements AutoCloseable {
     /** A process that is recorded, and its strands. */
     private static final class Family {
         private final String process;
+        private final Limits limits;
         private final Set<String> names = new HashSet<>();
         private final List<Recorder> strands = new ArrayList<>();
         /** Opens the stream of a strand, if there is a place for it. */
         private volatile Place place;
         private boolean ended;
 
-        Family(String process) {
+        Family(String process, Limits limits) {
             this.process = process;
+            this.limits = limits;
             names.add(process);
         }
 
@@ -746,15 +789,16 @@ public final class Recorder implements AutoCloseable {
                 throw refused(Reason.NAME_TWICE,
                         name + " is another process of this recording: give each strand a name of its own");
             }
-            if (names.size() == PROCESS_LIMIT) {
-                throw refused(Reason.PROCESSES, process + " and its strands are " + PROCESS_LIMIT
-                        + " processes, and a session has at most as many");
+            if (names.size() == limits.processes()) {
+                throw refused(Reason.PROCESSES, process + " and its strands are " + names.size() + " processes, and "
+                        + (limits == LONG ? "there can be no more"
+                                : "a session has at most as many; begin fewer strands, " + AS_A_LONG_RUN));
             }
             if (place == null) {
                 throw refused(Reason.NO_PLACE,
                         process + " has no place for the stream of a strand: make its recorder by toFile or toPort");
             }
-            Recorder strand = over(name, place.opened(name), this);
+            Recorder strand = over(name, place.opened(name), limits, this);
             names.add(name);
             strands.add(strand);
             return strand;
@@ -800,9 +844,10 @@ public final class Recorder implements AutoCloseable {
     /** One of a strand's events is kept for its end. */
     private void checkRoom() {
         checkOpen();
-        if (events >= (isStrand ? EVENT_LIMIT - 1 : EVENT_LIMIT)) {
-            throw refused(Reason.EVENTS, process + " has " + events + " events: no process may have more than "
-                    + EVENT_LIMIT + ", and the last one of a strand is its end");
+        if (events >= (isStrand ? limits.events() - 1 : limits.events())) {
+            throw refused(Reason.EVENTS, process + " has " + events + " events, and no process may have more than "
+                    + limits.events() + ", of which the last one of a strand is its end"
+                    + (limits == LONG ? "" : "; record fewer, " + AS_A_LONG_RUN));
         }
     }
 
@@ -853,7 +898,8 @@ public final class Recorder implements AutoCloseable {
 
     /** Hands the line to the system. If that fails, nothing more is written later. */
     private void write(OutputStream to, String line) {
-        // With the limits above no line has over 1,400 bytes, and no stream over 14,000,000: monitor takes more.
+        // With the limits above no line has over 1,400 bytes, and no stream over 14,000,000: monitor takes more. A line
+        // of a long recording has at most 7,200.
         broken = true;
         try {
             to.write(bytesOf(line));
@@ -972,16 +1018,26 @@ public final class Recorder implements AutoCloseable {
         return name;
     }
 
-    private static String checkedId(String id) {
+    private String checkedId(String id) {
         try {
             int size = id == null ? 0 : StandardCharsets.UTF_8.newEncoder().encode(CharBuffer.wrap(id)).remaining();
-            if (size >= 1 && size <= ID_BYTE_LIMIT) {
+            if (size >= 1 && size <= limits.idBytes()) {
                 return id;
             }
-            throw refused(Reason.ID, "the id of a message has 1 to " + ID_BYTE_LIMIT + " bytes, and this one " + size);
+            throw refused(Reason.ID,
+                    "the id of a message has 1 to " + limits.idBytes() + " bytes, and this one " + size);
         } catch (CharacterCodingException error) {
             throw refused(Reason.ID, "this id can't be written in UTF-8");
         }
+    }
+
+    /** The limits of a recording that is a long one if the options or MONITOR_LONG say so. */
+    private static Limits limitsOf(Collection<Option> options) {
+        String text = System.getenv().getOrDefault("MONITOR_LONG", "");
+        if (!Set.of("", "0", "1").contains(text)) {
+            throw refused(Reason.LONG, "MONITOR_LONG is \"" + text + "\", and is 1 for a long recording, or else 0");
+        }
+        return options.contains(Option.LONG) || text.equals("1") ? LONG : SESSION;
     }
 
     private static NotRecordedException refused(Reason reason, String message) {

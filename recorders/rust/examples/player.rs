@@ -25,13 +25,21 @@ type Made = Result<String, Error>;
 fn main() -> io::Result<()> {
     let mut recorder = None;
     let mut strands = Strands::default();
+    let mut refusal = String::new(); // the text of the last one
     for line in io::stdin().lock().lines() {
         let line = line?;
         let words: Vec<&str> = line.split(' ').collect();
+        if words[0] == "said" {
+            say(&format!("recorded {refusal}"));
+            continue;
+        }
         let answer = match make(&mut recorder, &mut strands, words[0], &words[1..]) {
             None => "cannot".to_owned(),
             Some(Ok(given)) => format!("recorded {given}").trim_end().to_owned(),
-            Some(Err(error)) => word_of(&error),
+            Some(Err(error)) => {
+                refusal = error.to_string();
+                word_of(&error)
+            }
         };
         say(&answer);
     }
@@ -60,6 +68,7 @@ fn word_of(error: &Error) -> String {
         Error::NotEnded(_) => "refused not-ended",
         Error::Running(_) => "refused running",
         Error::Again(_) => "refused again",
+        Error::Long(_) => "refused long",
         Error::Where(_) => "refused place",
         _ => "failed",
     }
@@ -97,20 +106,23 @@ fn make(
     words: &[&str],
 ) -> Option<Made> {
     match call {
-        "file" | "noted" | "replaced" | "again" | "noted-again" => {
+        "file" | "noted" | "replaced" | "again" | "noted-again" | "long" => {
             *strands = Strands::default();
             let options = Options::new()
                 .notes(call.starts_with("noted"))
                 .replace(call == "replaced")
-                .again(call.ends_with("again"));
+                .again(call.ends_with("again"))
+                .long(call == "long");
             return Some(opened(
                 recorder,
                 options.to_file(&text_of(words[0]), text_of(words[1])),
             ));
         }
-        "place" | "again-at" => {
+        "place" | "again-at" | "long-at" => {
             std::env::set_var("MONITOR_TO", text_of(words[1])); // no other thread runs
-            let options = Options::new().again(call == "again-at");
+            let options = Options::new()
+                .again(call == "again-at")
+                .long(call == "long-at");
             return Some(opened(
                 recorder,
                 options.from_environment(&text_of(words[0])),

@@ -39,6 +39,10 @@
 //! # }
 //! ```
 //!
+//! A session has limits, and a recording that is over them is refused at the call. With [`Options::long`], or
+//! `MONITOR_LONG=1` in the environment, it is a long recording, of any length, which monitor_reduce.py reduces before
+//! it is judged.
+//!
 //! Events have no names. With [`Options::notes`] each has a note in left.notes.jsonl, of the line of the program that
 //! recorded it, and of a text if one is given, as by `left.noted("the lock is ours").event(&[("inside", 1)])`.
 use std::cell::Cell;
@@ -67,6 +71,12 @@ pub const PROCESS_LIMIT: usize = 16;
 pub const NAME_BYTE_LIMIT: usize = 32;
 /// At most so many bytes has the id of a message, and at least one.
 pub const ID_BYTE_LIMIT: usize = 64;
+/// At most so many events has a process of a long recording.
+pub const LONG_EVENT_LIMIT: usize = 2_147_483_647;
+/// At most so many processes are a process of a long recording and its strands.
+pub const LONG_PROCESS_LIMIT: usize = 4_096;
+/// At most so many bytes has the id of a message in a long recording.
+pub const LONG_ID_BYTE_LIMIT: usize = 1_024;
 /// At most so many bytes has a note of its text, and of its place's file: what is longer is cut.
 pub const NOTE_BYTE_LIMIT: usize = 1_024;
 
@@ -78,6 +88,8 @@ const SOCKET_BYTE_LIMIT: usize = 107;
 const PAUSE: Duration = Duration::from_millis(50);
 /// So long a machine may take to say whether anybody listens, if the time for which that is waited for is less.
 const ANSWER: Duration = Duration::from_secs(1);
+const AS_A_LONG_RUN: &str =
+    "or record it as a long run: Options::long or MONITOR_LONG=1, and reduce it by monitor_reduce.py";
 const ENDING: &str = ".stream";
 const NOTES_ENDING: &str = ".notes.jsonl";
 
@@ -94,9 +106,10 @@ pub enum Error {
     VariableName(String),
     /// A process has at most 16 variables.
     Variables,
-    /// A process has at most 10,000 events. The last one of a strand is kept for its end.
+    /// A process has at most 10,000 events, or 2,147,483,647 in a long recording. The last one of a strand is kept for
+    /// its end.
     Events,
-    /// The id of a message has 1 to 64 bytes, and this one hasn't.
+    /// The id of a message has 1 to 64 bytes, or 1,024 in a long recording, and this one hasn't.
     Id(String),
     /// The process has sent or received a message with this id before. A receipt of which this is said is that of a
     /// second copy.
@@ -109,7 +122,7 @@ pub enum Error {
     Broken,
     /// This name is that of the process or of another strand of it.
     NameTwice(String),
-    /// A process and its strands are at most 16.
+    /// A process and its strands are at most 16, or 4,096 in a long recording.
     Processes,
     /// The recorder was made by [`Recorder::new`], so there is no place for the stream of a strand.
     NoPlace,
@@ -122,6 +135,8 @@ pub enum Error {
     /// No earlier incarnation can be told, for this reason: as of a connection, of a file that is replaced, or on this
     /// system.
     Again(&'static str),
+    /// No long recording is made, for this reason: as of a connection, or if `MONITOR_LONG` is neither 1 nor 0.
+    Long(String),
     /// There is no place for notes, since this is a port, or a file whose name doesn't end with `.stream`; or it is the
     /// text of `MONITOR_NOTES`, and is neither 1 nor 0.
     Notes(String),
@@ -145,11 +160,13 @@ impl fmt::Display for Error {
             Error::Variables => write!(to, "a process has at most {VARIABLE_LIMIT} variables"),
             Error::Events => write!(
                 to,
-                "a process has at most {EVENT_LIMIT} events, of which a strand's last one is its end"
+                "a process has at most {EVENT_LIMIT} events, of which a strand's last one is its end; record fewer, \
+                 {AS_A_LONG_RUN}"
             ),
             Error::Id(id) => write!(
                 to,
-                "the id of a message has 1 to {ID_BYTE_LIMIT} bytes, and {id:?} has {}",
+                "the id of a message has 1 to {ID_BYTE_LIMIT} bytes, or {LONG_ID_BYTE_LIMIT} in a long run, and \
+                 {id:?} has {}",
                 id.len()
             ),
             Error::IdTwice(id) => write!(to, "the process has sent or received {id:?} before"),
@@ -190,6 +207,7 @@ impl Error {
                 "{name} still runs: what is started beside it is no later incarnation, but a process of its own"
             ),
             Error::Again(why) => write!(to, "no earlier incarnation can be told: {why}"),
+            Error::Long(why) => write!(to, "no long recording is made: {why}"),
             Error::Notes(text) => write!(
                 to,
                 "{text:?} has no place for notes, which go beside a file whose name ends with {ENDING} and to no port; \
@@ -201,7 +219,8 @@ impl Error {
             ),
             _ => write!(
                 to,
-                "a session has at most {PROCESS_LIMIT} processes, and a process and its strands are as many"
+                "a session has at most {PROCESS_LIMIT} processes, and a process and its strands are as many; begin \
+                 fewer strands, {AS_A_LONG_RUN}"
             ),
         }
     }
@@ -260,7 +279,29 @@ impl Note<'_> {
 struct Family {
     /// Where the streams of strands are, if there is room for them.
     room: Option<Room>,
+    limits: Limits,
     strands: Mutex<Strands>,
+}
+
+/// So many events, processes and bytes of an id has a recording at most.
+#[derive(Clone, Copy)]
+struct Limits {
+    events: usize,
+    processes: usize,
+    id_bytes: usize,
+}
+
+impl Limits {
+    const SESSION: Limits = Limits {
+        events: EVENT_LIMIT,
+        processes: PROCESS_LIMIT,
+        id_bytes: ID_BYTE_LIMIT,
+    };
+    const LONG: Limits = Limits {
+        events: LONG_EVENT_LIMIT,
+        processes: LONG_PROCESS_LIMIT,
+        id_bytes: LONG_ID_BYTE_LIMIT,
+    };
 }
 
 /// Where `monitor serve` listens.
@@ -352,6 +393,7 @@ pub struct Options {
     has_notes: bool,
     replaces: bool,
     again: bool,
+    is_long: bool,
 }
 
 impl Options {
@@ -380,6 +422,47 @@ impl Options {
         Options { again, ..self }
     }
 
+    /// Whether it is a long recording: then it may have 2,147,483,647 events, 4,096 processes with its strands, and ids
+    /// of 1,024 bytes, and has to be reduced by monitor_reduce.py before it is judged. `MONITOR_LONG=1` in the
+    /// environment says the same, of each recorder that is made.
+    pub fn long(self, is_long: bool) -> Self {
+        Options { is_long, ..self }
+    }
+
+    /// Records to a file, a connection or whatever else takes bytes, as [`Recorder::new`] does. Of the options only
+    /// [`Options::long`] says anything of it.
+    pub fn to_writer(
+        self,
+        process: &str,
+        out: impl Write + Send + 'static,
+    ) -> Result<Recorder, Error> {
+        check_process(process)?;
+        Recorder::over(process, out, None, None, self.limits()?)
+    }
+
+    /// The limits of what is recorded, as these options or the environment say.
+    fn limits(self) -> Result<Limits, Error> {
+        match env::var_os("MONITOR_LONG") {
+            Some(text) if text == "1" => Ok(Limits::LONG),
+            Some(text) if !text.is_empty() && text != "0" => Err(Error::Long(format!(
+                "MONITOR_LONG is {text:?}, and is 1 for one, or else 0"
+            ))),
+            _ if self.is_long => Ok(Limits::LONG),
+            _ => Ok(Limits::SESSION),
+        }
+    }
+
+    /// Refuses a long recording to a connection, of which this is said.
+    fn refuse_long(self, said: impl fmt::Display) -> Result<(), Error> {
+        if self.limits()?.events > EVENT_LIMIT {
+            return Err(Error::Long(format!(
+                "{said}, and monitor serve judges within the limits of a session: record a long run to a folder, and \
+                 reduce it by monitor_reduce.py; MONITOR_LONG is 1 for one"
+            )));
+        }
+        Ok(())
+    }
+
     /// Records to a file.
     #[track_caller]
     pub fn to_file(self, process: &str, path: impl AsRef<Path>) -> Result<Recorder, Error> {
@@ -388,11 +471,12 @@ impl Options {
         if self.has_notes && notes_path(&path).is_none() {
             return Err(Error::Notes(path.to_string_lossy().into_owned()));
         }
+        let limits = self.limits()?;
         if self.again {
             return self.incarnation(process, path);
         }
         let (file, notes) = self.open(&path)?;
-        Recorder::over(process, file, notes, Some(Room::Beside(path, self)))
+        Recorder::over(process, file, notes, Some(Room::Beside(path, self)), limits)
     }
 
     /// Records to the first file of the process that isn't there yet.
@@ -449,7 +533,13 @@ impl Options {
             Some(notes) if self.has_notes => Some(Options::new().replace(true).new_file(&notes)?),
             _ => None,
         };
-        Recorder::over(name, file, notes, Some(Room::Beside(first, self)))
+        Recorder::over(
+            name,
+            file,
+            notes,
+            Some(Room::Beside(first, self)),
+            self.limits()?,
+        )
     }
 
     /// Records to where `MONITOR_TO` says, as [`Recorder::from_environment`] does.
@@ -473,8 +563,12 @@ impl Options {
         match Address::named(&text())? {
             Some(_) if self.has_notes => Err(Error::Notes(text())),
             Some(_) if self.again => Err(Error::Again(only)),
-            Some(address) => Recorder::to_address(process, address, PATIENCE),
+            Some(address) => {
+                self.refuse_long(format_args!("MONITOR_TO is {}", text()))?;
+                Recorder::to_address(process, address, PATIENCE)
+            }
             None => {
+                self.limits()?;
                 fs::create_dir_all(&place)?;
                 self.to_file(
                     process,
@@ -597,6 +691,7 @@ struct Strands {
 
 struct Recording {
     process: String,
+    limits: Limits,
     is_strand: bool,
     /// Where the notes of the events are written, if they have some.
     notes: Option<File>,
@@ -619,36 +714,44 @@ impl Recorder {
     }
 
     /// Records to `monitor serve` on a port of this machine, which may listen up to ten seconds later; if nobody does
-    /// by then, it is [`io::ErrorKind::ConnectionRefused`]. A later call waits while the monitor doesn't read.
+    /// by then, it is [`io::ErrorKind::ConnectionRefused`]. A later call waits while the monitor doesn't read. With
+    /// `MONITOR_LONG=1` it is [`Error::Long`], since a long recording is reduced before it is judged.
     pub fn to_port(process: &str, port: u16) -> Result<Self, Error> {
         Recorder::to_port_within(process, port, PATIENCE)
     }
 
     /// The same, with another time to wait for somebody who listens.
     pub fn to_port_within(process: &str, port: u16, patience: Duration) -> Result<Self, Error> {
+        check_process(process)?;
+        Options::new().refuse_long(format_args!("the port is {port}"))?;
         Recorder::to_address(process, Address::here(port), patience)
     }
 
     fn to_address(process: &str, address: Address, patience: Duration) -> Result<Self, Error> {
-        check_process(process)?;
         let out = connection_to(&address, patience)?;
-        Recorder::over(process, out, None, Some(Room::At(address, patience)))
+        Recorder::over(
+            process,
+            out,
+            None,
+            Some(Room::At(address, patience)),
+            Limits::SESSION,
+        )
     }
 
     /// Records to where `MONITOR_TO` in the environment says, so that no code changes between a test and a live
     /// session: to a new file `NAME.stream` in a folder of this name, which is made if there is none; or to `monitor
     /// serve`, on a port of this machine, of `:7411` or `localhost:7411`, on one of another machine, of `host:7411` or
     /// `[fe80::1]:7411`, or by a Unix socket, of `unix:/run/monitor.sock`. With `MONITOR_NOTES=1` each event gets a
-    /// note beside the file. A connection has no place for notes, and keeps no earlier incarnation, so with one notes
-    /// are [`Error::Notes`], and [`Options::again`] is [`Error::Again`]. What has a colon and no slash is no folder.
+    /// note beside the file. A connection has no place for notes, keeps no earlier incarnation, and is judged within
+    /// the limits of a session, so with one notes are [`Error::Notes`], [`Options::again`] is [`Error::Again`], and
+    /// [`Options::long`] is [`Error::Long`]. What has a colon and no slash is no folder.
     pub fn from_environment(process: &str) -> Result<Self, Error> {
         Options::new().from_environment(process)
     }
 
     /// Records to a file, a connection or whatever else takes bytes; each line is flushed.
     pub fn new(process: &str, out: impl Write + Send + 'static) -> Result<Self, Error> {
-        check_process(process)?;
-        Recorder::over(process, out, None, None)
+        Options::new().to_writer(process, out)
     }
 
     fn over(
@@ -656,8 +759,9 @@ impl Recorder {
         out: impl Write + Send + 'static,
         notes: Option<File>,
         room: Option<Room>,
+        limits: Limits,
     ) -> Result<Self, Error> {
-        let recording = Recording::begun(process, Box::new(out), notes, false)?;
+        let recording = Recording::begun(process, Box::new(out), notes, limits, false)?;
         let strands = Strands {
             names: HashSet::from([process.to_owned()]),
             recordings: Some(Vec::new()),
@@ -669,6 +773,7 @@ impl Recorder {
             begun: None,
             family: Arc::new(Family {
                 room,
+                limits,
                 strands: Mutex::new(strands),
             }),
         })
@@ -887,7 +992,7 @@ impl Family {
         if strands.names.contains(name) {
             return Err(Error::NameTwice(name.to_owned()));
         }
-        if strands.names.len() == PROCESS_LIMIT {
+        if strands.names.len() == self.limits.processes {
             return Err(Error::Processes);
         }
         let (out, notes): (Box<dyn Write + Send>, _) = match &self.room {
@@ -898,7 +1003,8 @@ impl Family {
             }
             Some(Room::At(address, patience)) => (connection_to(address, *patience)?, None),
         };
-        let recording = Arc::new(Mutex::new(Recording::begun(name, out, notes, true)?));
+        let begun = Recording::begun(name, out, notes, self.limits, true)?;
+        let recording = Arc::new(Mutex::new(begun));
         strands.names.insert(name.to_owned());
         recordings.push(Arc::clone(&recording));
         Ok(recording)
@@ -929,10 +1035,12 @@ impl Recording {
         process: &str,
         out: Box<dyn Write + Send>,
         notes: Option<File>,
+        limits: Limits,
         is_strand: bool,
     ) -> Result<Self, Error> {
         let mut recording = Recording {
             process: process.to_owned(),
+            limits,
             is_strand,
             notes,
             last: None,
@@ -953,7 +1061,7 @@ impl Recording {
 
     /// One of a strand's events is kept for its end.
     fn check_room(&self) -> Result<(), Error> {
-        if self.events >= EVENT_LIMIT - usize::from(self.is_strand) {
+        if self.events >= self.limits.events - usize::from(self.is_strand) {
             return Err(Error::Events);
         }
         Ok(())
@@ -1002,7 +1110,7 @@ impl Recording {
     /// Checks the message and the variables of an event, and writes its note, if it has one, and its line.
     fn put(&mut self, message: Message, settings: &[Setting], note: Note) -> Result<(), Error> {
         if let Some((_, id)) = message {
-            if id.is_empty() || id.len() > ID_BYTE_LIMIT {
+            if id.is_empty() || id.len() > self.limits.id_bytes {
                 return Err(Error::Id(id.to_owned()));
             }
             if self.ids.contains(id) {
@@ -1055,7 +1163,8 @@ impl Recording {
 
     /// Hands the line to the system. If that fails, or panics, nothing more is written later.
     fn write(&mut self, line: &str) -> Result<(), Error> {
-        // With the limits above no line has over 1,400 bytes, and no stream over 14,000,000: monitor takes more.
+        // With the limits above no line has over 1,400 bytes, and no stream over 14,000,000: monitor takes more. A line
+        // of a long recording has at most 7,200.
         let out = self.out.as_mut().ok_or(Error::Ended)?;
         self.is_broken = true;
         out.write_all(line.as_bytes())?;

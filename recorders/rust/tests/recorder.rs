@@ -1,5 +1,7 @@
 //! Tests of the recorder that the shared cases can't say.
-use monitor_recorder::{recorded_channel, Error, Options, RecordedMutex, Recorder};
+use monitor_recorder::{
+    recorded_channel, Error, Options, RecordedMutex, Recorder, LONG_ID_BYTE_LIMIT,
+};
 use std::fs;
 use std::io::{self, BufWriter, ErrorKind, Read, Write};
 use std::net::{TcpListener, TcpStream};
@@ -83,6 +85,21 @@ fn a_buffer_is_flushed() {
     let recorder = Recorder::new("left", BufWriter::new(out.clone())).unwrap();
     recorder.event(&[]).unwrap();
     assert_eq!(out.text(), format!("{JOIN}{{}}\n"));
+}
+
+#[test]
+fn a_long_recording() {
+    let id = "x".repeat(LONG_ID_BYTE_LIMIT);
+    let out = Parts::new(10_000);
+    let options = Options::new().long(true);
+    let recorder = options.to_writer("left", out.clone()).unwrap();
+    recorder.receive(&id, &[]).unwrap();
+    assert!(matches!(
+        recorder.send_as(&format!("{id}x"), &[]),
+        Err(Error::Id(_))
+    ));
+    recorder.end().unwrap();
+    assert_eq!(out.text(), format!("{JOIN}{{\"recv\":\"{id}\"}}\n{END}"));
 }
 
 #[test]
