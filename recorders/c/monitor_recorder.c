@@ -1400,7 +1400,7 @@ const char *monitor_text(monitor_status status)
     case MONITOR_ID_TWICE: return "the process has sent or received a message with this id before";
     case MONITOR_FORK: return "the recorder belongs to the process of which this one is a fork";
     case MONITOR_BROKEN: return "an earlier line could not be written";
-    case MONITOR_SYSTEM: return "the system could not open or write the recording";
+    case MONITOR_SYSTEM: return "the system could not open or write the recording, in a file or where MONITOR_TO says";
     case MONITOR_ENDED: return "the strand has ended";
     case MONITOR_NAME_TWICE: return "another process of this recording has this name: give each strand one of its own";
     case MONITOR_PROCESSES:

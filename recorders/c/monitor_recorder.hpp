@@ -33,6 +33,7 @@
 #include <cerrno>
 #include <cstddef>
 #include <cstdint>
+#include <cstdlib>
 #include <memory>
 #include <mutex>
 #include <stdexcept>
@@ -112,7 +113,11 @@ public:
     static Recorder from_environment(const std::string &process, int options = 0, const Note &note = {})
     {
         return made(process, [&](monitor_recorder **to) {
-            return monitor_from_environment_with_at(note.said(), process.c_str(), options, to);
+            monitor_status status = monitor_from_environment_with_at(note.said(), process.c_str(), options, to);
+            const char *place = status == MONITOR_SYSTEM ? std::getenv("MONITOR_TO") : nullptr;
+            if (place != nullptr)
+                throw std::system_error(errno, std::generic_category(), std::string("MONITOR_TO is ") + place);
+            return status;
         });
     }
 

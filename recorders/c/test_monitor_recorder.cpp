@@ -165,13 +165,20 @@ void test_refusals()
     CHECK(text_of("left.stream") == "{\"process\":\"left\"}\n{\"end\":true}\n");
 }
 
-/* To a descriptor, and to where the environment leads. */
+/* To a descriptor; and what the system says of where the environment leads. */
 void test_long_recordings()
 {
     std::string id(MONITOR_LONG_ID_BYTE_LIMIT, 'x');
     auto left = Recorder::to_descriptor("left", open("long", O_WRONLY | O_CREAT | O_TRUNC, 0666), MONITOR_LONG);
     left.receive(id);
     left.end();
+    setenv("MONITOR_TO", "/dev/null/none", 1);
+    try {
+        Recorder::from_environment("left");
+        CHECK(false);
+    } catch (const std::system_error &error) {
+        CHECK(std::string(error.what()).find("MONITOR_TO is /dev/null/none") == 0 && error.code().value() == ENOTDIR);
+    }
     setenv("MONITOR_TO", ":7411", 1);
     CHECK(refusal([] { Recorder::from_environment("left", MONITOR_LONG); }) == MONITOR_NOT_LONG);
     unsetenv("MONITOR_TO");

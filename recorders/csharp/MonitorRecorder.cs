@@ -345,7 +345,19 @@ namespace MonitorRecorder
         /// <paramref name="isLong"/> are refused with one.</summary>
         public static Recorder FromEnvironment(string process, bool again = false, bool isLong = false)
         {
-            return ToPlace(process, Environment.GetEnvironmentVariable("MONITOR_TO") ?? "", again, isLong);
+            string place = Environment.GetEnvironmentVariable("MONITOR_TO") ?? "";
+            try
+            {
+                return ToPlace(process, place, again, isLong);
+            }
+            catch (IOException error)
+            {
+                throw new IOException("MONITOR_TO is " + place + ": " + error.Message, error);
+            }
+            catch (UnauthorizedAccessException error)
+            {
+                throw new UnauthorizedAccessException("MONITOR_TO is " + place + ": " + error.Message, error);
+            }
         }
 
         /// <summary>The same, of a place that is given.</summary>

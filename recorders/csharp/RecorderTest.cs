@@ -40,6 +40,14 @@ internal static class RecorderTest
         }
         See("{\"process\":\"left\"}\n{\"end\":true}\n", Path.Combine(folder, "left.stream"));
         Fails<IOException>(() => FromEnvironment("left"));
+        try
+        {
+            FromEnvironment("left");
+        }
+        catch (IOException error)
+        {
+            Same("True", error.Message.StartsWith("MONITOR_TO is " + folder + ": ").ToString());
+        }
         Environment.SetEnvironmentVariable("MONITOR_TO", null);
         Refuses(Reason.Place, () => FromEnvironment("left"));
         Refuses(Reason.Place, () => ToPlace("left", ":0"));

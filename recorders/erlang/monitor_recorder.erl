@@ -30,6 +30,7 @@
 -export([to_file/2, to_file/3, to_port/2, to_port/3, from_environment/1, from_environment/2, to_place/2, to_place/3]).
 -export([event/1, event/2, send/1, send/2, send_as/2, send_as/3, recv/2, recv/3, events/1]).
 -export([strand/2, join/2, join/3, close/1, abandon/1]).
+-export([format_error/2]).
 -export_type([recorder/0, name/0, settings/0, option/0, word/0]).
 
 -define(EVENT_LIMIT, 10000).
@@ -500,7 +501,20 @@ from_environment(Process) ->
 %% so `again' and `long' are refused with one.
 -spec from_environment(name(), [option()]) -> recorder().
 from_environment(Process, Options) ->
-    to_place(Process, os:getenv(?PLACE, ""), Options).
+    Place = os:getenv(?PLACE, ""),
+    try
+        to_place(Process, Place, Options)
+    catch
+        error:{failed, Reason} ->
+            Cause = #{general => text("~ts is ~ts", [?PLACE, Place])},
+            erlang:error({failed, Reason}, [Process, Options], [{error_info, #{cause => Cause}}])
+    end.
+
+%% @doc What the shell says of an error beside it.
+-spec format_error(term(), [tuple()]) -> #{general => binary()}.
+format_error(_, [{_, _, _, Info} | _]) ->
+    #{cause := Cause} = proplists:get_value(error_info, Info),
+    Cause.
 
 %% @doc The same, of a place that is given.
 -spec to_place(name(), file:filename_all()) -> recorder().

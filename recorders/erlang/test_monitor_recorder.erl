@@ -15,7 +15,7 @@ tests() ->
      "a_join_of_what_has_not_exited", "a_child",
      "a_process_that_is_added_later", "recordings_one_after_the_other", "stopped_at_work",
      "refusals_of_trace", "settings_that_are_refused", "too_many_variables", "too_many_events",
-     "a_long_recording", "another_tracer",
+     "a_long_recording", "where_the_environment_leads", "another_tracer",
      "where_nothing_is_recorded", "a_lease", "places", "an_owner_that_exits", "names_texts_and_values"].
 
 passes(Test, Folder) ->
@@ -280,6 +280,16 @@ test("a_long_recording", Folder) ->
     refused(long, fun() -> monitor_recorder:trace([{a, worker()}], ":7411", [long]) end),
     ok = monitor_recorder:stop(),
     badarg = raised(fun() -> monitor_recorder:to_file(left, filename:join(Folder, "left.stream"), [longer]) end);
+
+%% What the system says names the place.
+test("where_the_environment_leads", _) ->
+    true = os:putenv("MONITOR_TO", "/dev/null/none"),
+    try
+        monitor_recorder:from_environment(left)
+    catch
+        error:{failed, enotdir} = Reason:Stack ->
+            #{general := <<"MONITOR_TO is /dev/null/none">>} = monitor_recorder:format_error(Reason, Stack)
+    end;
 
 test("another_tracer", _) ->
     seq_trace:set_system_tracer(self()),
