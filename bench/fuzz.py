@@ -11,7 +11,8 @@ crates/monitor/out/monitor if it isn't given. The targets, each for N seconds on
     check      a report, true or damaged; of a true one no evidence is bad
     explore    the document and the streams: a page whose scripts are the page's own
     draw       the same and a report: a picture that is XML, or what stands against it
-    importers  the importers, monitor_mend and monitor_infer: a session or a named refusal, and no other exception
+    importers  the importers, monitor_mend, monitor_infer and monitor_reduce: a session or a named refusal, and no
+               other exception
 
 The number of an input and the seed say all of it. What goes wrong is printed and kept in FOLDER (fuzz-found if not
 given), with its files and the command. The last line counts inputs and what went wrong; the status is 1 if anything

@@ -20,6 +20,7 @@ import import_vector_clocks  # noqa: E402
 import import_zipkin  # noqa: E402
 import monitor_infer  # noqa: E402
 import monitor_mend  # noqa: E402
+import monitor_reduce  # noqa: E402
 import trace_forms  # noqa: E402
 
 # So many seconds of the processor an importer has.
@@ -33,6 +34,10 @@ RULES = b"""{"process": "{host}", "rules": [
  {"match": "^(?<host>x) is (?<x>\\\\S+)", "set": {"x": "{x}"}}]}"""
 STREAMS = [b'{"process":"left"}\n{"send":"left-1","set":{"x":1}}\n{"recv":"right-1"}\n{"end":true}\n',
            b'{"process":"right"}\n{"recv":"left-1"}\n{"send":"right-1","set":{"x":2}}\n{"x']
+LONG = {"session.json": b'{"processes":[{"name":"left","vars":{"x":0}},{"name":"right","vars":{"x":-1}}],"version":2,'
+                        b'"predicates":[{"name":"p","text":"left.x + 2 * right.x > 3 or not (left.x == 1)"}]}',
+        "left.stream": b'{"process":"left"}\n{"send":"1","set":{"x":1}}\n{"recv":"2"}\n{"set":{"x":2}}\n{"end":true}\n',
+        "right.stream": b'{"process":"right"}\n{"recv":"1"}\n{"set":{"x":1}}\n{}\n{"send":"2"}\n{"end":true}\n'}
 SESSION = ["--out", "out", "--predicate", "p", "true", "--when", "inside=1|start", "inside=1"]
 
 Trial = collections.namedtuple("Trial", "module words files command")
@@ -72,7 +77,8 @@ class Importers:
             (import_logs, [*SESSION, "--rules", "rules", "one"], {"one": LINES, "rules": RULES}),
             (monitor_mend, ["--out", "out", "left.stream", "right.stream"],
              dict(zip(("left.stream", "right.stream"), STREAMS))),
-            (monitor_infer, ["left.stream", "right.stream"], dict(zip(("left.stream", "right.stream"), STREAMS)))]
+            (monitor_infer, ["left.stream", "right.stream"], dict(zip(("left.stream", "right.stream"), STREAMS))),
+            (monitor_reduce, [*LONG, "--to", "out", "--windows", "1"], LONG)]
         self.texts = [text for _, _, files in self.kinds for text in files.values()]
         self.words = fuzz_inputs.words_of(self.texts)
 
