@@ -1,10 +1,11 @@
 #!/usr/bin/env python3
 """page.py PAGE..: runs the commands of pages, each page's in an empty folder, and compares what they write.
 
-An indented block of a page is commands; one that begins as a report, as a stream, as a document, or as what
-monitor_mend says of a stream, is what the commands before it write, all of it. A block between fences isn't run. The
-commands are those that a reader gives at the top of the repository, where they find `recorders`, `examples` and the
-program: crates/monitor/out/monitor, or the one that MONITOR names. Without a program nothing is run. The status is 1 if a command fails, or writes something else.
+An indented block of a page is commands; one that begins as a report, as a stream, as a document, as what monitor_mend
+says of a stream, or as what monitor_reduce says of a run, is what the commands before it write, all of it. A block
+between fences isn't run. The commands are those that a reader gives at the top of the repository, where they find
+`recorders`, `examples` and the program: crates/monitor/out/monitor, or the one that MONITOR names. Without a program
+nothing is run. The status is 1 if a command fails, or writes something else.
 """
 import os
 import re
@@ -14,7 +15,7 @@ import tempfile
 
 import judged
 
-OUTPUT = re.compile(r"session \d|refused |\{\"process|\S+\.stream: ")
+OUTPUT = re.compile(r"session \d|refused |\{\"process|\S+\.stream: |\d+ processes, ")
 FENCED = re.compile(r"^```.*?^```$", re.M | re.S)
 BLOCK = re.compile(r"(?:^    .*\n|^\n(?=\n*    ))+", re.M)
 BETWEEN = "---- the next block ----"
