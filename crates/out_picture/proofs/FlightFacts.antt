@@ -1,7 +1,8 @@
 -- The test of flights is what it is to be in flight.
-use Rattle.std.proofs.Common.{◌≡◌, ℕ, zero, suc, ◌<◌, length, Bool, true, false, not, IsTrue, List, [], ◌∷◌, refl, sym, ap, ◌∙◌, subst, ◌↔◌, arith}
+use Rattle.std.proofs.Common.{◌≡◌, ℕ, zero, suc, ◌+◌, ◌<◌, length, get_or, take, Bool, true, false, not, IsTrue, List, [], ◌∷◌, refl, sym, ap, ◌∙◌, subst, ◌↔◌, arith}
 use Rattle.std.specs.Prelude.{◌&&◌, ◌||◌, ◌==◌, Option, Some, None, Contains, slice_index_or}
 use Rattle.std.proofs.lemmas.List.Elements.{Contains-append_right}
+use Rattle.std.proofs.lemmas.List.Folds.{list_any_more}
 use Rattle.std.proofs.lemmas.Bool.{and_from, and_parts, eqb-true, eq-eqb}
 use Rattle.def_model.specs.Events.{Computation, Place, Kind, Local, Send, Receive, kind_at}
 use Rattle.def_model.specs.Messages.{IsMessageList}
@@ -11,14 +12,14 @@ use Rattle.pd_match.specs.declared.place.Place.{Place as MatchedPlace}
 use Rattle.out_picture.specs.Flights.{is_flight, is_received, is_send}
 use Rattle.out_picture.specs.Pictures.{IsInFlight}
 
-is_send_some : (kind : Option Kind) → is_send kind ≡ true → (id : List ℕ) × (kind ≡ Some (Send id))
+pub is_send_some : (kind : Option Kind) → is_send kind ≡ true → (id : List ℕ) × (kind ≡ Some (Send id))
 is_send_some None fails = absurd (cc)
 is_send_some (Some Local) fails = absurd (cc)
 is_send_some (Some (Send id)) holds = (id, refl)
 is_send_some (Some (Receive id)) fails = absurd (cc)
 
 -- whether the message is sent at this place
-is_sent_at : Place → MatchedPlace × MatchedPlace → Bool
+pub is_sent_at : Place → MatchedPlace × MatchedPlace → Bool
 is_sent_at e message = message.0.process == e.process && message.0.number == e.number
 
 received_more : (e : Place) (message : MatchedPlace × MatchedPlace) (rest : List (MatchedPlace × MatchedPlace))
@@ -26,7 +27,15 @@ received_more : (e : Place) (message : MatchedPlace × MatchedPlace) (rest : Lis
 unfolding is_sent_at
 received_more e message rest = refl
 
-sent_here : (e : Place) (message : MatchedPlace × MatchedPlace) → is_sent_at e message ≡ true
+-- the same of one message more
+pub received_at : (messages : List (MatchedPlace × MatchedPlace)) (e : Place) (i : ℕ)
+    (d : MatchedPlace × MatchedPlace) → i < length messages
+    → is_received (take (i + 1) messages) e
+    ≡ (is_received (take i messages) e || is_sent_at e (get_or messages i d))
+unfolding is_sent_at
+received_at messages e i d lt = list_any_more (is_sent_at e) messages i d lt
+
+pub sent_here : (e : Place) (message : MatchedPlace × MatchedPlace) → is_sent_at e message ≡ true
     → place_view message.0 ≡ e
 unfolding is_sent_at
 sent_here e message holds =
@@ -35,7 +44,7 @@ sent_here e message holds =
     same_place (place_view message.0) e (eqb-true message.0.process e.process w.0)
     (eqb-true message.0.number e.number w.1)
 
-here_sent : (e : Place) (message : MatchedPlace × MatchedPlace) → place_view message.0 ≡ e
+pub here_sent : (e : Place) (message : MatchedPlace × MatchedPlace) → place_view message.0 ≡ e
     → is_sent_at e message ≡ true
 unfolding is_sent_at
 here_sent e message same =

@@ -5,5 +5,6 @@ pub mod Listed
 pub mod Cuts
 pub mod StepFacts
 pub mod FlightFacts
+pub mod ReceivedFacts
 pub mod PictureFacts
 pub mod CycleFacts

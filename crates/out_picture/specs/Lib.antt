@@ -1,5 +1,6 @@
 pub mod Columns
 pub mod Flights
+pub mod Received
 pub mod Layout
 pub mod Rooms
 pub mod Shapes

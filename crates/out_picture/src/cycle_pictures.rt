@@ -62,7 +62,15 @@ fn push_below(
     push_marked_events(shapes, window, rows, subject.cycle)?;
     push_messages(shapes, window, rows, messages)?;
     push_ends(alloc, shapes, window, rows, messages)?;
-    push_flights(shapes, window, rows, subject.traces, messages, places)
+    push_flights(
+        alloc,
+        shapes,
+        window,
+        rows,
+        subject.traces,
+        messages,
+        places,
+    )
 }
 
 /// All shapes, each over those before it.

@@ -19,6 +19,7 @@
 //! - `lanes`: the lines of the processes
 //! - `messages`: the arrows of messages
 //! - `ends`: the marks of messages of which one end isn't shown
+//! - `received`: which sends are received
 //! - `flights`: the arrows of messages in flight
 //! - `dots`: the events that are shown, and their dots
 //! - `cut`: a cut across the processes
@@ -48,6 +49,7 @@ mod kind;
 mod lanes;
 mod messages;
 mod pictures;
+mod received;
 mod rooms;
 mod shapes;
 mod steps;

@@ -129,7 +129,15 @@ fn push_run(
     push_lanes(alloc, shapes, window, subject.names)?;
     push_messages(shapes, window, rows, messages)?;
     push_ends(alloc, shapes, window, rows, messages)?;
-    push_flights(shapes, window, rows, subject.traces, messages, &places)?;
+    push_flights(
+        alloc,
+        shapes,
+        window,
+        rows,
+        subject.traces,
+        messages,
+        &places,
+    )?;
     push_dots(alloc, shapes, window, rows, subject.evidence, &places)
 }
 
