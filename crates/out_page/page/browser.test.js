@@ -103,6 +103,7 @@ test("all is done by keys", needed, async () => {
   assert.equal(await page.text("event-title"), "Event manager#4");
   await page.press("Escape", "Escape", "?");
   assert.equal(await page.js("byId('help').open"), true);
+  assert.equal(await page.js("byId('help').scrollTop"), 0, "it is read from its beginning");
   await page.press("Escape");
   assert.equal(await page.js("byId('help').open"), false);
   await page.until("byId('live').textContent === byId('status').textContent");
@@ -395,6 +396,7 @@ test("a refused cycle is marked, and has no cut", needed, async () => {
   const words = (await page.text("cycle")).replace(/\s+/g, " ");
   assert.match(words, /left#2 receives answer from right#2, which comes after right#1/);
   assert.match(words, /right#1 receives question from left#3, which comes after left#2/);
+  assert.equal(await page.js("getComputedStyle(byId('verdict'), '::before').content"), "\"✗ \"");
   assert.deepEqual(await page.js("[...document.querySelectorAll('.of-cuts')].filter((each) => each.offsetHeight > 0)"),
     [], "nothing of cuts is shown");
   await page.click(1, 2);

@@ -26,22 +26,30 @@ function cutAt(text, end) {
 
 // ---- notes ------------------------------------------------------------------------------------------------------
 
-// The text of a note as a label, cut for so much room: kept with the note, since going along the run changes no room.
-function labelOf(context, note, room) {
+// The text of a note as a label, cut for so much room, with the number of the event's other notes if half of the room
+// is enough for it: kept with the note, since going along the run changes no room.
+function labelOf(context, note, more, room) {
   if (note.room === room) return note.label;
+  const text = plainText(excerpt(note.text, NOTE_EXCERPT));
+  const number = more === 0 ? "" : " +" + more;
+  const wide = context.measureText(number).width;
   note.room = room;
-  note.label = fitting(context, plainText(excerpt(note.text, NOTE_EXCERPT)), room);
+  note.label = number === "" || wide > room / 2 ? fitting(context, text, room)
+    : "\u2068" + fitting(context, text, room - wide) + "\u2069" + number;
   return note.label;
 }
 
-// The events of a lane in view that have a note with a text, and the next one right of the view.
+// The events of a lane in view that have a note with a text, and the next one right of the view: of each the first such
+// note, and how many others it has.
 function notedInView({ run, view, left, right }, p) {
   const { columns } = run.shown[p];
   const found = [];
   for (let k = countUpTo(columns, left - NOTE_WIDTH / view.scale) + 1; k < columns.length; k++) {
-    const note = run.notes.at[p][eventAt(run.shown[p], k)];
-    if (note !== null && note.text !== "") {
-      found.push({ x: xOf(view, columns[k]), after: xOf(view, columns[k + 1] ?? Infinity), note });
+    const notes = notesAt(run, p, eventAt(run.shown[p], k));
+    const note = firstText(notes);
+    if (note !== null) {
+      found.push({ x: xOf(view, columns[k]), after: xOf(view, columns[k + 1] ?? Infinity), note,
+                   more: notes.length - 1 });
     }
     if (columns[k] > right) break;
   }
@@ -56,11 +64,11 @@ function placeNotes(scene, p, labels) {
   const y = laneY(size, p) + radius + (isLow ? 5 : 18);
   const indent = isLow ? 5 + 3.5 * String(run.counts[p]).length : -radius;
   const noted = notedInView(scene, p);
-  noted.forEach(({ x, after, note }, k) => {
+  noted.forEach(({ x, after, note, more }, k) => {
     const start = x + indent;
     const next = isLow ? after - indent : (noted[k + 1]?.x ?? Infinity) - radius;
     const room = Math.floor(Math.min(NOTE_WIDTH, next - start - 6, size.width - start - 4));
-    if (room >= NOTE_ROOM && start < size.width) labels.push({ x: start, y, room, note });
+    if (room >= NOTE_ROOM && start < size.width) labels.push({ x: start, y, room, note, more });
   });
 }
 
@@ -74,8 +82,8 @@ function drawNotes(scene) {
   context.textBaseline = "top";
   for (const p of size.order.filter((each) => !size.folded[each])) placeNotes(scene, p, labels);
   context.fillStyle = palette.note;
-  for (const { x, y, room, note } of labels) {
-    const text = labelOf(context, note, room);
+  for (const { x, y, room, note, more } of labels) {
+    const text = labelOf(context, note, more, room);
     if (labels.length <= HALO_LIMIT) haloText(context, palette, text, x, y, palette.note);
     else context.fillText(text, x, y);
   }
@@ -113,5 +121,5 @@ function besideCut(context, text, x, width) {
 
 if (typeof module === "object") {
   Object.assign(globalThis, require("./notes.js"));   // on the page, scripts share their names
-  module.exports = { fitting };
+  module.exports = { fitting, labelOf };
 }

@@ -544,6 +544,7 @@ function makePage() {
     ? "An event is selected" : "The cut is moved") + " on the lanes beside; the events are listed as a table below.");
   if (run.cycle !== null) {
     document.documentElement.classList.add("cycle");
+    byId("verdict").className = "broken";
     byId("lanes").setAttribute("aria-label", "The processes: which event is selected");
     byId("to-cut").textContent = "To the cycle";
     makeCycle(run, actions);

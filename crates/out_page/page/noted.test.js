@@ -104,6 +104,66 @@ test("a note is shown at its dot, beside the event and in the list, and is found
   await web.close();
 });
 
+test("of several notes on an event all are shown, and a label has the number of the others", needed, async () => {
+  const several = ["first", "</script><b>second</b>", ""];
+  const page = await Page.open(changed(example("failover"), "several", (data) => ({ ...data,
+    notes: [...several.flatMap((text) => notesOf(data, () => text)), JSON.stringify({ process: "west", event: 1,
+      text: "only on west" }), '{"process":"manager","event":4,"text":"again"}\n'.repeat(200)] })));
+  assert.equal(await page.js("run.notes.count"), 3 * 13 + 201);
+  assert.equal(await page.text("wrong-notes"), "");
+  await page.js("select(1, 2)");
+  assert.match(await page.text("event-body"), /Note 1 of 3firstRecorded by.*Note 2 of 3<\/script><b>second<\/b>Rec/);
+  assert.match(await page.text("event-body"), /Note 3 of 3without a textRecorded by/);
+  assert.match(await page.text("status"), /“\u2068first\u2069” and 2 more notes$/);
+  const listed = "[...document.querySelectorAll('#listing-table tr:nth-child(2) td.of-notes > div')]";
+  assert.deepEqual(await page.js(`${listed}.map((each) => each.textContent)`), ["first", "</script><b>second</b>"]);
+  assert.equal(await page.js(`${listed}.every((each, k, all) => k === 0 || each.getBoundingClientRect().top >=
+    all[k - 1].getBoundingClientRect().bottom - 1)`), true, "one below the other");
+  const drawn = await page.js("drawingText(run, state, palette, size, lanes)");
+  assert.match(drawn, />\u2068first\u2069 \+2</);
+  assert.match(drawn, />\u2068f[^<]*\u2069 \+3</, "of west#1");
+  await page.js("byId('query').value = 'ONLY ON'; toHit(1)");
+  assert.deepEqual([await page.text("event-title"), await page.text("matches")],
+    ["Event west#1", "1 of 1: by its note"]);
+  await page.js("select(0, 4)");
+  assert.match(await page.text("event-body"), /Note 100 of 203again.*Not shown103 more notes/);
+  assert.match(await page.text("listing-table"), /again(and )?102 more notes/);
+  await page.close();
+});
+
+test("the list of events has room for its columns at each width", needed, async () => {
+  const said = ["yes", "the lock is ours", "it asks the manager for the lease again, since the last answer was lost"];
+  const file = example("failover");
+  const noted = changed(file, "widths", (data) => ({ ...data, notes: notesOf(data, (p, i) => said[i % 3]) }));
+  for (const which of [noted, file]) {
+    const page = await Page.open(which);
+    await page.js("list(1, 1); updateListing(run, state, actions)");
+    // Of each text in these cells how many lines it has.
+    const lines = (cells) => page.js(`[...document.querySelectorAll("#listing-table ${cells}")].flatMap((each) => {
+      const found = [];
+      const walker = document.createTreeWalker(each, NodeFilter.SHOW_TEXT);
+      const range = document.createRange();
+      while (walker.nextNode()) {
+        range.selectNodeContents(walker.currentNode);
+        found.push([walker.currentNode.data, range.getClientRects().length]);
+      }
+      return found;
+    })`);
+    for (const width of [360, 800, 1200, 1920]) {
+      await page.call("Emulation.setDeviceMetricsOverride",
+        { width, height: 900, deviceScaleFactor: 1, mobile: false });
+      await page.settle();
+      const words = [...await lines("th"), ...await lines("td.of-notes")].filter(([text]) => text.length < 12);
+      if (width > 640) words.push(...await lines("td:nth-child(3)"), ...await lines("td:nth-child(4)"));
+      assert.deepEqual(words.filter(([, count]) => count > 1), [], "what is short is broken at " + width);
+      assert.equal(await page.js(`(({ right }) => right <= innerWidth && [...document.querySelectorAll(
+        "#listing-table td")].every((each) => each.getBoundingClientRect().right <= right))(
+          byId("listing").getBoundingClientRect())`), true, "a column stands out of the card at " + width);
+    }
+    await page.close();
+  }
+});
+
 test("without notes nothing of them is shown, and lines that are none are counted", needed, async () => {
   const plain = await Page.open(example("failover"));
   const shown = "[...document.querySelectorAll('.of-notes')].filter((each) => each.offsetHeight > 0)";
@@ -114,8 +174,8 @@ test("without notes nothing of them is shown, and lines that are none are counte
   const page = await Page.open(changed(example("failover"), "wrong", (data) => ({ ...data,
     link: "javascript:alert('{file}')", notes: ["", notesOf(data, () => "fine")[1] + '{"process": "east", "ev'] })));
   assert.equal(await page.text("wrong-notes"), "1 line of the notes isn't a note of an event of this run, and isn't " +
-    "shown: file 2, line 6: it is no object of JSON. Places are no links: of “\u2068javascript:alert('{file}')\u2069” " +
-    "the scheme is none of http, https, vscode, idea and file.");
+    "shown: file 2, line 6: it is no object of JSON. Places are no links: of " +
+    "“\u2068javascript:alert('{file}')\u2069” the scheme is none of http, https, vscode, idea and file.");
   await page.js("select(1, 2)");
   assert.match(await page.text("event-body"), /Notefine/);
   assert.equal(await page.js("document.querySelectorAll('a').length"), 0);

@@ -39,7 +39,8 @@ function isolated(text, most = NOTE_EXCERPT) {
 
 // ---- reading ----------------------------------------------------------------------------------------------------
 
-// The notes of a run: of event i of p `at[p][i]` has the text, the place and the clock, or nothing.
+// The notes of a run: of event i of p `at[p][i]` has those of it in the order of the files and their lines, or nothing.
+// A note has a text, a place and a clock.
 class Notes {
   constructor(run, files) {
     this.run = run;
@@ -92,8 +93,7 @@ class Notes {
     if (typeof said !== "string") return () => "its text is none";
     if (typeof place !== "string") return () => "its place is no text";
     if (clock !== null && !Number.isFinite(clock)) return () => "its clock is no number";
-    if (this.at[p][event] !== null) return () => name + "#" + event + " has a note before it";
-    this.at[p][event] = { text: said, place, clock };
+    (this.at[p][event] ??= []).push({ text: said, place, clock });
     this.count++;
     return null;
   }
@@ -116,18 +116,18 @@ class Notes {
     const events = [];
     const starts = [];
     let length = 0;
-    this.at.forEach((list, p) => list.forEach((note, i) => {
-      if (note === null) return;
+    this.at.forEach((list, p) => list.forEach((notes, i) => notes?.forEach((note) => {
       const part = (note.text + "\n" + note.place + "\n").toLowerCase();
       parts.push(part);
       events.push(p, i);
       starts.push(length);
       length += part.length;
-    }));
+    })));
     this.index = { text: parts.join(""), events: Uint32Array.from(events), starts: Uint32Array.from(starts) };
   }
 
-  // Gives `add` each event whose note has this part in its text or its place; the part is in small letters.
+  // Gives `add` each event of which a note has this part in its text or its place, once for each such note; the part is
+  // in small letters.
   find(part, add) {
     const { text, events, starts } = this.index;
     let k = 0;
@@ -140,15 +140,29 @@ class Notes {
   }
 }
 
-function noteAt(run, p, i) {
-  return run.notes === null ? null : run.notes.at[p][i];
+const NO_NOTES = [];
+
+function notesAt(run, p, i) {
+  return run.notes?.at[p][i] ?? NO_NOTES;
 }
 
-// The note of an event in a sentence: its text, or if it has none, its place.
+// The first of these notes that has a text, or nothing.
+function firstText(notes) {
+  return notes.find(({ text }) => text !== "") ?? null;
+}
+
+// The notes of an event in a sentence: the first text, or if there is none, the first place; and how many more notes
+// there are.
 function noteWords(run, p, i) {
-  const note = noteAt(run, p, i);
-  if (note === null || note.text + note.place === "") return "";
-  return note.text === "" ? "at " + isolated(note.place) : "“" + isolated(note.text) + "”";
+  const notes = notesAt(run, p, i);
+  const first = firstText(notes) ?? notes.find(({ place }) => place !== "");
+  if (first === undefined) return "";
+  const words = first.text === "" ? "at " + isolated(first.place) : "“" + isolated(first.text) + "”";
+  return words + (notes.length === 1 ? "" : " and " + moreNotes(notes.length - 1));
+}
+
+function moreNotes(count) {
+  return count.toLocaleString("en") + (count === 1 ? " more note" : " more notes");
 }
 
 // Which lines are no notes, in words.
@@ -215,6 +229,6 @@ function linkOf(pattern, place) {
 
 if (typeof module === "object") {
   Object.assign(globalThis, require("./run.js"));   // on the page, scripts share their names
-  module.exports = { Notes, noteAt, noteWords, wrongNotesText, clockText, plainText, excerpt, isolated, linkOf,
-                     isLinkPattern, wrongLinkText };
+  module.exports = { Notes, notesAt, firstText, noteWords, wrongNotesText, clockText, plainText, excerpt, isolated,
+                     linkOf, isLinkPattern, wrongLinkText, NOTE_EXCERPT };
 }

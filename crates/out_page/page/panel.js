@@ -4,6 +4,7 @@
 
 const LISTING_ROWS = 12;
 const REASONS_SHOWN = 6;
+const NOTES_SHOWN = 100;   // of an event
 
 function element(tag, attributes, ...children) {
   const made = document.createElement(tag);
@@ -323,16 +324,26 @@ function placeNode(run, place) {
   return element("a", { href: address, rel: "noopener noreferrer", target: isWeb ? "_blank" : null }, noteNode(place));
 }
 
-// What the note of an event says, as rows of the list beside the drawing.
-function addNote(run, p, i, add) {
-  const note = noteAt(run, p, i);
-  if (note === null) {
-    if (run.notes !== null) add("Note", "none");
-    return;
-  }
-  if (note.text !== "") add("Note", noteNode(note.text));
-  if (note.place !== "") add("Recorded by", placeNode(run, note.place));
-  if (note.clock !== null) add("By the clock", clockText(note.clock));
+// What the notes of an event say, as rows of the list beside the drawing. Of several each has its number.
+function addNotes(run, p, i, add) {
+  const notes = notesAt(run, p, i);
+  const { length } = notes;
+  if (length === 0 && run.notes !== null) add("Note", "none");
+  notes.slice(0, NOTES_SHOWN).forEach(({ text, place, clock }, k) => {
+    if (text !== "") add(length === 1 ? "Note" : "Note " + (k + 1) + " of " + length, noteNode(text));
+    else if (length > 1) add("Note " + (k + 1) + " of " + length, "without a text");
+    if (place !== "") add("Recorded by", placeNode(run, place));
+    if (clock !== null) add("By the clock", clockText(clock));
+  });
+  if (length > NOTES_SHOWN) add("Not shown", moreNotes(length - NOTES_SHOWN));
+}
+
+// The texts of an event's notes one below the other, each cut at its end if it is long.
+function noteLines(run, p, i) {
+  const texts = notesAt(run, p, i).filter(({ text }) => text !== "").map(({ text }) => excerpt(text, NOTE_EXCERPT));
+  const lines = texts.slice(0, NOTES_SHOWN).map(noteNode);
+  if (texts.length > NOTES_SHOWN) lines.push("and " + moreNotes(texts.length - NOTES_SHOWN));
+  return lines.map((line) => element("div", {}, line));
 }
 
 function updateEvent(run, state, actions) {
@@ -350,7 +361,7 @@ function updateEvent(run, state, actions) {
   const list = element("dl", {});
   const add = (term, ...words) => list.append(element("dt", {}, term), element("dd", {}, ...words));
   if (run.cycle === null) add("At the cut", i <= state.cut[p] ? "it has happened" : "it has not happened");
-  addNote(run, p, i, add);
+  addNotes(run, p, i, add);
   add("Recorded in", plainText(sourceOf(run, p, i)));
   const sets = setsOf(run, p, i);
   add("Sets", sets.length === 0 ? "nothing"
@@ -395,7 +406,7 @@ function updateListing(run, state, actions) {
       element("td", {}, lineOf(run, p, i)),
       element("td", {}, setsOf(run, p, i).map(({ name, value }) => name + " = " + value).join(", ")),
       element("td", {}, message === null ? "" : message.verb + " " + plainText(message.id)),
-      element("td", { class: "of-notes" }, noteNode(excerpt(noteAt(run, p, i)?.text ?? "", NOTE_EXCERPT))),
+      element("td", { class: "of-notes" }, ...noteLines(run, p, i)),
       element("td", { class: "of-cuts" }, i <= state.cut[p] ? "yes" : ""));
   };
   const chosen = state.selected !== null && state.selected.p === p ? state.selected.i : 0;

@@ -6,9 +6,9 @@ const assert = require("node:assert");
 const { readRun, find } = require("./run.js");
 const { verdictOf, verdictText, readWishes, cameOfAll, wishText, firstEvidence, sessionName,
         titleText } = require("./verdict.js");
-const { Notes, noteWords, wrongNotesText, wrongLinkText, clockText, plainText, excerpt, isolated,
+const { Notes, notesAt, noteWords, wrongNotesText, wrongLinkText, clockText, plainText, excerpt, isolated,
         linkOf } = require("./notes.js");
-const { fitting } = require("./labels.js");
+const { fitting, labelOf } = require("./labels.js");
 const { whatToMend, plainLines } = require("./refusal.js");
 
 const NEUTRAL = { refusal: null, cycle: null, wishes: [] };
@@ -125,7 +125,7 @@ test("notes are those that recorders write, and what is none is counted and said
     { process: "right", event: 2, text: "", place: "b.py:4" }, { process: "left", event: 3, text: "no place" });
   assert.equal(run.notes.count, 3);
   assert.equal(wrongNotesText(run), "");
-  assert.deepEqual(run.notes.at[0][1], { text: "the lock is ours", place: "/src/turn.py:3", clock: 1764402424.5 });
+  assert.deepEqual(run.notes.at[0][1], [{ text: "the lock is ours", place: "/src/turn.py:3", clock: 1764402424.5 }]);
   assert.deepEqual([[0, 1], [0, 2], [0, 3], [1, 2]].map(([p, i]) => noteWords(run, p, i)),
     ["“\u2068the lock is ours\u2069”", "", "“\u2068no place\u2069”", "at \u2068b.py:4\u2069"]);
   const good = { process: "left", event: 1, text: "t", place: "p:1", clock: 1 };
@@ -140,7 +140,6 @@ test("notes are those that recorders write, and what is none is counted and said
   for (const [line, words] of wrong) assert.equal(why(line), words);
   assert.equal(why({ ...good, event: 2 }), undefined);
   assert.equal(why('{"__proto__":1,"process":"left","event":2,"text":"t"}'), undefined);
-  assert.equal(noted(good, good).notes.wrong.first.why, "left#1 has a note before it");
   const two = smallRun();
   two.notes = new Notes(two, [JSON.stringify(good), "\n{}\nx"]);
   assert.equal(wrongNotesText(two), "2 lines of the notes aren't notes of events of this run, and aren't shown; " +
@@ -149,12 +148,32 @@ test("notes are those that recorders write, and what is none is counted and said
     "shown: file 1, line 1: it is no object of JSON.");
 });
 
+test("of several notes on an event none is left out: they keep their order, and each is found", () => {
+  const note = (event, text, place = "") => ({ process: "left", event, text, place });
+  const run = smallRun();
+  const files = [[note(2, "", "a.py:1"), note(1, "asks"), note(2, "grants"), note(3, "", "c.py:3")],
+    [note(2, "grants", "b.py:2"), note(3, ""), note(1, "asks again")]];
+  run.notes = new Notes(run, files.map((notes) => notes.map((each) => JSON.stringify(each)).join("\n")));
+  assert.deepEqual([run.notes.count, run.notes.wrong.count, wrongNotesText(run)], [7, 0, ""]);
+  assert.deepEqual(notesAt(run, 0, 2).map(({ text, place }) => text + place), ["a.py:1", "grants", "grantsb.py:2"]);
+  assert.deepEqual(notesAt(run, 1, 1), []);
+  assert.deepEqual(notesAt(smallRun(), 0, 2), [], "without notes there are none");
+  assert.deepEqual([1, 2, 3].map((i) => noteWords(run, 0, i)), ["“\u2068asks\u2069” and 1 more note",
+    "“\u2068grants\u2069” and 2 more notes", "at \u2068c.py:3\u2069 and 1 more note"]);
+  const found = (query) => find(run, query).map(({ p, i, why }) => [p, i, why]);
+  assert.deepEqual(found("AGAIN"), [[0, 1, "by its note"]], "a later note");
+  assert.deepEqual(found("b.py:2"), [[0, 2, "by its note"]]);
+  assert.deepEqual(found("a.py"), [[0, 2, "by its note"]]);
+  assert.deepEqual(found("grants"), [[0, 2, "by its note"]], "an event is found once");
+  assert.deepEqual(found("as"), [[0, 1, "by its note"]], "in both of its notes");
+});
+
 test("many lines that are no notes are counted, and the notes among them shown", () => {
   const good = JSON.stringify({ process: "left", event: 2, text: "\\\"\u2028é", place: "", clock: 1.5e9 });
   for (const bad of ["{x}", '{"', "{", "x", '{"a":[', '{"a"}', '{"a":1,}']) {
     const run = noted(...new Array(1500).fill(bad), good);
     assert.deepEqual([run.notes.count, run.notes.wrong.count], [1, 1500], bad);
-    assert.equal(run.notes.at[0][2].text, "\\\"\u2028é");
+    assert.equal(run.notes.at[0][2][0].text, "\\\"\u2028é");
   }
 });
 
@@ -185,6 +204,11 @@ test("what shows as no letter is shown as an escape, and no character is cut in 
   const context = { measureText: (text) => ({ width: 5 * text.length }) };
   assert.deepEqual([100, 50, 26, 4].map((width) => fitting(context, "the lock is ours", width)),
     ["the lock is ours", "the lock …", "the …", "t…"]);
+  const label = (text, more, room) => labelOf(context, { text }, more, room);
+  assert.deepEqual([100, 50, 29].map((room) => label("the lock is ours", 2, room)),
+    ["\u2068the lock is ours\u2069 +2", "\u2068the lo…\u2069 +2", "the …"], "the number only if there is room for it");
+  assert.equal(label("the lock is ours", 0, 100), "the lock is ours");
+  assert.equal(label("שלום\u202e", 12, 100), "\u2068שלום\\u202e\u2069 +12");
 });
 
 // ---- links ----

@@ -7,13 +7,13 @@ pub(crate) const BEFORE: &[u8] = b"\
     <head>\n\
     <meta charset=\"utf-8\">\n\
     <meta http-equiv=\"Content-Security-Policy\" content=\"default-src 'none'; script-src 'sha256-OJFpdG6lY/M9FHc\
-    lJK+YBcGOhumgKQOzsn+6anQDdyc=' 'sha256-7ZgQyYVjiNps+NRW/WsBZvFI1dSNLnPVzUzyObpADCk=' 'sha256-nX5RxClVAdV3Hah6\
-    mWpqEDFikvPeTY81pPgSs9cdpss=' 'sha256-ELJWnDhlCBUfJorKQZ+GL05onk7yAn/f9SXOR3si6vE=' 'sha256-FZ+DN4R4KHAP5VP7E\
-    IRs1WDuhV1nHYxKFyFly0xbMQI=' 'sha256-NWF6JYBrxukP/TcjhZGwJhuWkq7QZEcq/QWI2Co8yFw=' 'sha256-h2Uhpk4HhvSUT0LdYC\
-    Jztvj7cm9PLy9DToD8hIWjILU=' 'sha256-tsRsD/TAsqw+FffR89hgEgmqobNywQ/2MXrtcNsTbDY=' 'sha256-DFLn9WS1veO3d4TA78m\
-    gGfz4gOUs1hrmXSzppRMkrf8=' 'sha256-vgDaCfXtjDyTh3vi5+NYUBodQX2QV3Sf5TBgZzghOzI=' 'sha256-BA2S7wJ+YsjOIqbilV5j\
-    IiAsGduEOc4cu19mQnHS7pY=' 'sha256-40d7jQ26UIpYn8LM0GkOvYx1R0KpGYgWaGbBx8l1yxQ=' 'sha256-g28Pk6V7tssHQQ0ys9aUF\
-    IPfLfd5jH4TWoVOL4B9fY0='; style-src 'sha256-6Op8BnOX48b+V6panvlSypKdHvG4fY1qyhXATSiooaY='; base-uri 'none'; f\
+    lJK+YBcGOhumgKQOzsn+6anQDdyc=' 'sha256-7ZgQyYVjiNps+NRW/WsBZvFI1dSNLnPVzUzyObpADCk=' 'sha256-CGmcfDHDyliCuLTj\
+    /4ehnwGjAkf4Pw1J8+EWNzDcqAo=' 'sha256-ELJWnDhlCBUfJorKQZ+GL05onk7yAn/f9SXOR3si6vE=' 'sha256-FZ+DN4R4KHAP5VP7E\
+    IRs1WDuhV1nHYxKFyFly0xbMQI=' 'sha256-NWF6JYBrxukP/TcjhZGwJhuWkq7QZEcq/QWI2Co8yFw=' 'sha256-wDAAuqX0uS3zu340Jk\
+    gWw9VoVPaBjgYNCNRItrSpc14=' 'sha256-tsRsD/TAsqw+FffR89hgEgmqobNywQ/2MXrtcNsTbDY=' 'sha256-DFLn9WS1veO3d4TA78m\
+    gGfz4gOUs1hrmXSzppRMkrf8=' 'sha256-S3nj7sS2G2twjx2X5EJfjMb2pargt3oHiPnbcoqSkZE=' 'sha256-BA2S7wJ+YsjOIqbilV5j\
+    IiAsGduEOc4cu19mQnHS7pY=' 'sha256-40d7jQ26UIpYn8LM0GkOvYx1R0KpGYgWaGbBx8l1yxQ=' 'sha256-DzsIJXb1XWgkqEMhcqbZY\
+    z9n1HWe54RZruC+pNp4VXw='; style-src 'sha256-L4UbZWIADSdj+9xcd9Au/Dl6+csCkhmT9N0y4hq9Z5A='; base-uri 'none'; f\
     orm-action 'none'\">\n\
     <meta name=\"viewport\" content=\"width=device-width, initial-scale=1\">\n\
     <meta name=\"referrer\" content=\"no-referrer\">\n\
@@ -208,8 +208,10 @@ pub(crate) const BEFORE: &[u8] = b"\
     \x20 border-radius: 6px; font: 13px/1.5 var(--mono); unicode-bidi: isolate; white-space: pre-wrap;\n\
     \x20 overflow-wrap: anywhere; }\n\
     \n\
-    .cards { display: grid; align-items: start; gap: 14px;\n\
-    \x20 grid-template-columns: repeat(auto-fit, minmax(min(100%, 340px), 1fr)); }\n\
+    .cards { display: flex; flex-wrap: wrap; align-items: flex-start; gap: 14px; }\n\
+    #event { flex: 1 1 min(100%, 340px); }\n\
+    #listing { flex: 2 1 min(100%, 460px); }   /* below the event if that leaves no such width */\n\
+    .noted #listing { flex-basis: min(100%, 560px); }\n\
     .card { border-radius: 10px; padding: 12px 14px; min-width: 0; }\n\
     .card dl, .answers { display: grid; grid-template-columns: max-content minmax(0, 1fr); gap: 3px 12px; }\n\
     dt { color: var(--muted); }\n\
@@ -220,9 +222,12 @@ pub(crate) const BEFORE: &[u8] = b"\
     .pager { display: flex; gap: 6px; align-items: center; margin-bottom: 8px; color: var(--muted); }\n\
     table { border-collapse: collapse; width: 100%; font-variant-numeric: tabular-nums; }\n\
     th { font-weight: 500; text-align: left; }\n\
-    thead th { color: var(--muted); font-size: 12px; font-weight: 400; padding: 2px 8px 4px 0; }\n\
+    thead th { color: var(--muted); font-size: 12px; font-weight: 400; padding: 2px 8px 4px 0; white-space: nowra\
+    p; }\n\
     td, tbody th { padding: 2px 8px 2px 0; vertical-align: top; overflow-wrap: anywhere; }\n\
-    .noted #listing-table td:nth-child(3), .noted #listing-table td:nth-child(4) { min-width: 7.5em; }\n\
+    #listing-table td:nth-child(3) { min-width: 8em; }\n\
+    #listing-table td:nth-child(4) { min-width: 12em; }\n\
+    #listing-table td.of-notes { min-width: 9em; }\n\
     #listing-table td:nth-child(3), #listing-table td:nth-child(4) { font: 12.5px/1.6 var(--mono); }\n\
     #listing-table .out { color: var(--muted); }\n\
     #listing-table .chosen { box-shadow: inset 3px 0 var(--select); }\n\
@@ -297,10 +302,13 @@ pub(crate) const BEFORE: &[u8] = b"\
     dialog { border: 1px solid var(--line); border-radius: 12px; background: var(--surface); color: var(--ink);\n\
     \x20 max-width: min(640px, 94vw); padding: 20px 24px; }\n\
     dialog::backdrop { background: #0006; }\n\
+    dialog h2:focus { outline: 0; }\n\
     dialog th { white-space: nowrap; padding-right: 18px; }\n\
     kbd { font: 12px/1.4 var(--mono); border: 1px solid var(--line); border-radius: 4px; padding: 1px 5px;\n\
     \x20 background: var(--ground); }\n\
     .signs { list-style: none; margin: 14px 0; display: grid; gap: 4px; }\n\
+    .signs li { padding-left: 34px; text-indent: -34px; }\n\
+    .signs span { text-indent: 0; }\n\
     .sign { display: inline-block; width: 26px; height: 12px; margin-right: 8px; vertical-align: -1px; }\n\
     .sign.dot, .sign.ring { width: 12px; border-radius: 50%; border: 2px solid var(--ink); margin: 0 15px 0 7px; \
     }\n\
@@ -346,7 +354,8 @@ pub(crate) const BEFORE: &[u8] = b"\
     \x20 .of-view { flex-wrap: wrap; }\n\
     \x20 .noted #listing-table :is(th, td):nth-child(2), .noted #listing-table :is(th, td):nth-child(6) { display\
     : none; }\n\
-    \x20 .noted #listing-table td:nth-child(3), .noted #listing-table td:nth-child(4) { min-width: 5.5em; }\n\
+    \x20 #listing-table td:nth-child(3), #listing-table td:nth-child(4) { min-width: 5.5em; }\n\
+    \x20 #listing-table td.of-notes { min-width: 6em; }\n\
     }\n\
     @media print {\n\
     \x20 @page { size: landscape; margin: 12mm; }\n\
@@ -524,7 +533,7 @@ pub(crate) const BEFORE: &[u8] = b"\
     \x20 <p>The page asks nothing of any network.</p>\n\
     </footer>\n\
     <dialog id=\"help\" aria-labelledby=\"help-title\">\n\
-    \x20 <h2 id=\"help-title\">Keys and signs</h2>\n\
+    \x20 <h2 id=\"help-title\" tabindex=\"-1\" autofocus>Keys and signs</h2>\n\
     \x20 <table>\n\
     \x20   <tbody>\n\
     \x20     <tr><th scope=\"row\"><kbd>\xe2\x86\x90</kbd> <kbd>\xe2\x86\x92</kbd></th><td>one event of the lane \
@@ -555,10 +564,11 @@ pub(crate) const BEFORE: &[u8] = b"\
     \x20 <p class=\"hint\"><strong>Only what matters</strong> hides the events that set no variable which the sho\
     wn predicate names, and the messages without which those that do have the same order; small dots are ends of \
     messages that stay, and a dashed line hides as many events as its number says.</p>\n\
-    \x20 <p class=\"hint of-notes\">A <strong>note</strong> stands below its event where there is room, and whole\
-    \x20in the list of events and beside the selected one. It is found by any part of its text or of its place. I\
-    ts time is that of its machine's clock, and orders nothing. What shows as no letter is an escape, as \\u202e.\
-    </p>\n\
+    \x20 <p class=\"hint of-notes\">A <strong>note</strong> stands below its event where there is room, in the li\
+    st of events, and whole beside the selected one. Of several on one event the first stands below it, with the \
+    number of the others, as +2; the list and the selected event have them all. A note is found by any part of it\
+    s text or of its place. Its time is that of its machine's clock, and orders nothing. What shows as no letter \
+    is an escape, as \\u202e.</p>\n\
     \x20 <ul class=\"signs\">\n\
     \x20   <li><span class=\"sign dot\"></span> has happened at the cut</li>\n\
     \x20   <li><span class=\"sign ring\"></span> has not happened</li>\n\

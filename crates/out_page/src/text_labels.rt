@@ -34,23 +34,32 @@ pub(crate) const LABELS: &[u8] = b"\
     // ---- notes -----------------------------------------------------------------------------------------------\
     -------\n\
     \n\
-    // The text of a note as a label, cut for so much room: kept with the note, since going along the run changes\
-    \x20no room.\n\
-    function labelOf(context, note, room) {\n\
+    // The text of a note as a label, cut for so much room, with the number of the event's other notes if half of\
+    \x20the room\n\
+    // is enough for it: kept with the note, since going along the run changes no room.\n\
+    function labelOf(context, note, more, room) {\n\
     \x20 if (note.room === room) return note.label;\n\
+    \x20 const text = plainText(excerpt(note.text, NOTE_EXCERPT));\n\
+    \x20 const number = more === 0 ? \"\" : \" +\" + more;\n\
+    \x20 const wide = context.measureText(number).width;\n\
     \x20 note.room = room;\n\
-    \x20 note.label = fitting(context, plainText(excerpt(note.text, NOTE_EXCERPT)), room);\n\
+    \x20 note.label = number === \"\" || wide > room / 2 ? fitting(context, text, room)\n\
+    \x20   : \"\\u2068\" + fitting(context, text, room - wide) + \"\\u2069\" + number;\n\
     \x20 return note.label;\n\
     }\n\
     \n\
-    // The events of a lane in view that have a note with a text, and the next one right of the view.\n\
+    // The events of a lane in view that have a note with a text, and the next one right of the view: of each the\
+    \x20first such\n\
+    // note, and how many others it has.\n\
     function notedInView({ run, view, left, right }, p) {\n\
     \x20 const { columns } = run.shown[p];\n\
     \x20 const found = [];\n\
     \x20 for (let k = countUpTo(columns, left - NOTE_WIDTH / view.scale) + 1; k < columns.length; k++) {\n\
-    \x20   const note = run.notes.at[p][eventAt(run.shown[p], k)];\n\
-    \x20   if (note !== null && note.text !== \"\") {\n\
-    \x20     found.push({ x: xOf(view, columns[k]), after: xOf(view, columns[k + 1] ?? Infinity), note });\n\
+    \x20   const notes = notesAt(run, p, eventAt(run.shown[p], k));\n\
+    \x20   const note = firstText(notes);\n\
+    \x20   if (note !== null) {\n\
+    \x20     found.push({ x: xOf(view, columns[k]), after: xOf(view, columns[k + 1] ?? Infinity), note,\n\
+    \x20                  more: notes.length - 1 });\n\
     \x20   }\n\
     \x20   if (columns[k] > right) break;\n\
     \x20 }\n\
@@ -66,11 +75,11 @@ pub(crate) const LABELS: &[u8] = b"\
     \x20 const y = laneY(size, p) + radius + (isLow ? 5 : 18);\n\
     \x20 const indent = isLow ? 5 + 3.5 * String(run.counts[p]).length : -radius;\n\
     \x20 const noted = notedInView(scene, p);\n\
-    \x20 noted.forEach(({ x, after, note }, k) => {\n\
+    \x20 noted.forEach(({ x, after, note, more }, k) => {\n\
     \x20   const start = x + indent;\n\
     \x20   const next = isLow ? after - indent : (noted[k + 1]?.x ?? Infinity) - radius;\n\
     \x20   const room = Math.floor(Math.min(NOTE_WIDTH, next - start - 6, size.width - start - 4));\n\
-    \x20   if (room >= NOTE_ROOM && start < size.width) labels.push({ x: start, y, room, note });\n\
+    \x20   if (room >= NOTE_ROOM && start < size.width) labels.push({ x: start, y, room, note, more });\n\
     \x20 });\n\
     }\n\
     \n\
@@ -85,8 +94,8 @@ pub(crate) const LABELS: &[u8] = b"\
     \x20 context.textBaseline = \"top\";\n\
     \x20 for (const p of size.order.filter((each) => !size.folded[each])) placeNotes(scene, p, labels);\n\
     \x20 context.fillStyle = palette.note;\n\
-    \x20 for (const { x, y, room, note } of labels) {\n\
-    \x20   const text = labelOf(context, note, room);\n\
+    \x20 for (const { x, y, room, note, more } of labels) {\n\
+    \x20   const text = labelOf(context, note, more, room);\n\
     \x20   if (labels.length <= HALO_LIMIT) haloText(context, palette, text, x, y, palette.note);\n\
     \x20   else context.fillText(text, x, y);\n\
     \x20 }\n\
@@ -128,7 +137,7 @@ pub(crate) const LABELS: &[u8] = b"\
     \n\
     if (typeof module === \"object\") {\n\
     \x20 Object.assign(globalThis, require(\"./notes.js\"));   // on the page, scripts share their names\n\
-    \x20 module.exports = { fitting };\n\
+    \x20 module.exports = { fitting, labelOf };\n\
     }\n\
     </script>\n\
     ";

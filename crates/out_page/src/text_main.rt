@@ -584,6 +584,7 @@ pub(crate) const MAIN: &[u8] = b"\
     a table below.\");\n\
     \x20 if (run.cycle !== null) {\n\
     \x20   document.documentElement.classList.add(\"cycle\");\n\
+    \x20   byId(\"verdict\").className = \"broken\";\n\
     \x20   byId(\"lanes\").setAttribute(\"aria-label\", \"The processes: which event is selected\");\n\
     \x20   byId(\"to-cut\").textContent = \"To the cycle\";\n\
     \x20   makeCycle(run, actions);\n\

@@ -50,7 +50,9 @@ pub(crate) const NOTES: &[u8] = b"\
     // ---- reading ---------------------------------------------------------------------------------------------\
     -------\n\
     \n\
-    // The notes of a run: of event i of p `at[p][i]` has the text, the place and the clock, or nothing.\n\
+    // The notes of a run: of event i of p `at[p][i]` has those of it in the order of the files and their lines, \
+    or nothing.\n\
+    // A note has a text, a place and a clock.\n\
     class Notes {\n\
     \x20 constructor(run, files) {\n\
     \x20   this.run = run;\n\
@@ -104,8 +106,7 @@ pub(crate) const NOTES: &[u8] = b"\
     \x20   if (typeof said !== \"string\") return () => \"its text is none\";\n\
     \x20   if (typeof place !== \"string\") return () => \"its place is no text\";\n\
     \x20   if (clock !== null && !Number.isFinite(clock)) return () => \"its clock is no number\";\n\
-    \x20   if (this.at[p][event] !== null) return () => name + \"#\" + event + \" has a note before it\";\n\
-    \x20   this.at[p][event] = { text: said, place, clock };\n\
+    \x20   (this.at[p][event] ??= []).push({ text: said, place, clock });\n\
     \x20   this.count++;\n\
     \x20   return null;\n\
     \x20 }\n\
@@ -129,20 +130,20 @@ pub(crate) const NOTES: &[u8] = b"\
     \x20   const events = [];\n\
     \x20   const starts = [];\n\
     \x20   let length = 0;\n\
-    \x20   this.at.forEach((list, p) => list.forEach((note, i) => {\n\
-    \x20     if (note === null) return;\n\
+    \x20   this.at.forEach((list, p) => list.forEach((notes, i) => notes?.forEach((note) => {\n\
     \x20     const part = (note.text + \"\\n\" + note.place + \"\\n\").toLowerCase();\n\
     \x20     parts.push(part);\n\
     \x20     events.push(p, i);\n\
     \x20     starts.push(length);\n\
     \x20     length += part.length;\n\
-    \x20   }));\n\
+    \x20   })));\n\
     \x20   this.index = { text: parts.join(\"\"), events: Uint32Array.from(events), starts: Uint32Array.from(star\
     ts) };\n\
     \x20 }\n\
     \n\
-    \x20 // Gives `add` each event whose note has this part in its text or its place; the part is in small letter\
-    s.\n\
+    \x20 // Gives `add` each event of which a note has this part in its text or its place, once for each such not\
+    e; the part is\n\
+    \x20 // in small letters.\n\
     \x20 find(part, add) {\n\
     \x20   const { text, events, starts } = this.index;\n\
     \x20   let k = 0;\n\
@@ -155,16 +156,31 @@ pub(crate) const NOTES: &[u8] = b"\
     \x20 }\n\
     }\n\
     \n\
-    function noteAt(run, p, i) {\n\
-    \x20 return run.notes === null ? null : run.notes.at[p][i];\n\
+    const NO_NOTES = [];\n\
+    \n\
+    function notesAt(run, p, i) {\n\
+    \x20 return run.notes?.at[p][i] ?? NO_NOTES;\n\
     }\n\
     \n\
-    // The note of an event in a sentence: its text, or if it has none, its place.\n\
+    // The first of these notes that has a text, or nothing.\n\
+    function firstText(notes) {\n\
+    \x20 return notes.find(({ text }) => text !== \"\") ?? null;\n\
+    }\n\
+    \n\
+    // The notes of an event in a sentence: the first text, or if there is none, the first place; and how many mo\
+    re notes\n\
+    // there are.\n\
     function noteWords(run, p, i) {\n\
-    \x20 const note = noteAt(run, p, i);\n\
-    \x20 if (note === null || note.text + note.place === \"\") return \"\";\n\
-    \x20 return note.text === \"\" ? \"at \" + isolated(note.place) : \"\xe2\x80\x9c\" + isolated(note.text) + \"\
-    \xe2\x80\x9d\";\n\
+    \x20 const notes = notesAt(run, p, i);\n\
+    \x20 const first = firstText(notes) ?? notes.find(({ place }) => place !== \"\");\n\
+    \x20 if (first === undefined) return \"\";\n\
+    \x20 const words = first.text === \"\" ? \"at \" + isolated(first.place) : \"\xe2\x80\x9c\" + isolated(first.\
+    text) + \"\xe2\x80\x9d\";\n\
+    \x20 return words + (notes.length === 1 ? \"\" : \" and \" + moreNotes(notes.length - 1));\n\
+    }\n\
+    \n\
+    function moreNotes(count) {\n\
+    \x20 return count.toLocaleString(\"en\") + (count === 1 ? \" more note\" : \" more notes\");\n\
     }\n\
     \n\
     // Which lines are no notes, in words.\n\
@@ -238,9 +254,9 @@ pub(crate) const NOTES: &[u8] = b"\
     \n\
     if (typeof module === \"object\") {\n\
     \x20 Object.assign(globalThis, require(\"./run.js\"));   // on the page, scripts share their names\n\
-    \x20 module.exports = { Notes, noteAt, noteWords, wrongNotesText, clockText, plainText, excerpt, isolated, li\
-    nkOf,\n\
-    \x20                    isLinkPattern, wrongLinkText };\n\
+    \x20 module.exports = { Notes, notesAt, firstText, noteWords, wrongNotesText, clockText, plainText, excerpt, \
+    isolated,\n\
+    \x20                    linkOf, isLinkPattern, wrongLinkText, NOTE_EXCERPT };\n\
     }\n\
     </script>\n\
     ";

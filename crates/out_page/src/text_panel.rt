@@ -10,6 +10,7 @@ pub(crate) const PANEL: &[u8] = b"\
     \n\
     const LISTING_ROWS = 12;\n\
     const REASONS_SHOWN = 6;\n\
+    const NOTES_SHOWN = 100;   // of an event\n\
     \n\
     function element(tag, attributes, ...children) {\n\
     \x20 const made = document.createElement(tag);\n\
@@ -363,16 +364,28 @@ pub(crate) const PANEL: &[u8] = b"\
     , noteNode(place));\n\
     }\n\
     \n\
-    // What the note of an event says, as rows of the list beside the drawing.\n\
-    function addNote(run, p, i, add) {\n\
-    \x20 const note = noteAt(run, p, i);\n\
-    \x20 if (note === null) {\n\
-    \x20   if (run.notes !== null) add(\"Note\", \"none\");\n\
-    \x20   return;\n\
-    \x20 }\n\
-    \x20 if (note.text !== \"\") add(\"Note\", noteNode(note.text));\n\
-    \x20 if (note.place !== \"\") add(\"Recorded by\", placeNode(run, note.place));\n\
-    \x20 if (note.clock !== null) add(\"By the clock\", clockText(note.clock));\n\
+    // What the notes of an event say, as rows of the list beside the drawing. Of several each has its number.\n\
+    function addNotes(run, p, i, add) {\n\
+    \x20 const notes = notesAt(run, p, i);\n\
+    \x20 const { length } = notes;\n\
+    \x20 if (length === 0 && run.notes !== null) add(\"Note\", \"none\");\n\
+    \x20 notes.slice(0, NOTES_SHOWN).forEach(({ text, place, clock }, k) => {\n\
+    \x20   if (text !== \"\") add(length === 1 ? \"Note\" : \"Note \" + (k + 1) + \" of \" + length, noteNode(tex\
+    t));\n\
+    \x20   else if (length > 1) add(\"Note \" + (k + 1) + \" of \" + length, \"without a text\");\n\
+    \x20   if (place !== \"\") add(\"Recorded by\", placeNode(run, place));\n\
+    \x20   if (clock !== null) add(\"By the clock\", clockText(clock));\n\
+    \x20 });\n\
+    \x20 if (length > NOTES_SHOWN) add(\"Not shown\", moreNotes(length - NOTES_SHOWN));\n\
+    }\n\
+    \n\
+    // The texts of an event's notes one below the other, each cut at its end if it is long.\n\
+    function noteLines(run, p, i) {\n\
+    \x20 const texts = notesAt(run, p, i).filter(({ text }) => text !== \"\").map(({ text }) => excerpt(text, NOT\
+    E_EXCERPT));\n\
+    \x20 const lines = texts.slice(0, NOTES_SHOWN).map(noteNode);\n\
+    \x20 if (texts.length > NOTES_SHOWN) lines.push(\"and \" + moreNotes(texts.length - NOTES_SHOWN));\n\
+    \x20 return lines.map((line) => element(\"div\", {}, line));\n\
     }\n\
     \n\
     function updateEvent(run, state, actions) {\n\
@@ -393,7 +406,7 @@ pub(crate) const PANEL: &[u8] = b"\
     \x20 const add = (term, ...words) => list.append(element(\"dt\", {}, term), element(\"dd\", {}, ...words));\n\
     \x20 if (run.cycle === null) add(\"At the cut\", i <= state.cut[p] ? \"it has happened\" : \"it has not happe\
     ned\");\n\
-    \x20 addNote(run, p, i, add);\n\
+    \x20 addNotes(run, p, i, add);\n\
     \x20 add(\"Recorded in\", plainText(sourceOf(run, p, i)));\n\
     \x20 const sets = setsOf(run, p, i);\n\
     \x20 add(\"Sets\", sets.length === 0 ? \"nothing\"\n\
@@ -447,8 +460,7 @@ pub(crate) const PANEL: &[u8] = b"\
     \x20     element(\"td\", {}, setsOf(run, p, i).map(({ name, value }) => name + \" = \" + value).join(\", \"))\
     ,\n\
     \x20     element(\"td\", {}, message === null ? \"\" : message.verb + \" \" + plainText(message.id)),\n\
-    \x20     element(\"td\", { class: \"of-notes\" }, noteNode(excerpt(noteAt(run, p, i)?.text ?? \"\", NOTE_EXCE\
-    RPT))),\n\
+    \x20     element(\"td\", { class: \"of-notes\" }, ...noteLines(run, p, i)),\n\
     \x20     element(\"td\", { class: \"of-cuts\" }, i <= state.cut[p] ? \"yes\" : \"\"));\n\
     \x20 };\n\
     \x20 const chosen = state.selected !== null && state.selected.p === p ? state.selected.i : 0;\n\
