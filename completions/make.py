@@ -308,7 +308,7 @@ def is_there(shell):
 
 def wrong_completions(files):
     """The lines that bash completes otherwise than it should, and fish, if it is there; and what zsh can't read."""
-    every = ["judge", "check", "draw", "serve", "explore", "test", "help", "-h", "--help", "-V", "--version",
+    every = ["judge", "check", "draw", "serve", "explore", "test", "infer", "help", "-h", "--help", "-V", "--version",
              "--explain"]
     wanted = {
         "monitor ": every,
@@ -331,7 +331,7 @@ def wrong_completions(files):
         "monitor serve session --port ": [],
         "monitor explore session a --n": ["--never", "--notes"],
         "monitor draw --": [
-            "--width", "--ask", "--predicate", "--evidence", "--from", "--all", "--help", "--explain"],
+            "--width", "--ask", "--beyond-width", "--predicate", "--evidence", "--from", "--all", "--help", "--explain"],
         "monitor draw session report a --evidence ": ["possibly", "definitely"],
         "monitor help s": ["serve"],
         "monitor check ": [],

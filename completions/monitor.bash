@@ -24,7 +24,7 @@ _monitor() {
   case "$current" in --*=*) previous="${current%%=*}" current="${current#*=}" ;; esac
   COMPREPLY=()
   if [ "${#words[@]}" -le 2 ]; then
-    COMPREPLY=($(compgen -W 'judge check draw serve explore test help --explain -h --help -V --version' -- "$current"))
+    COMPREPLY=($(compgen -W 'judge check draw serve explore test infer help --explain -h --help -V --version' -- "$current"))
     return
   fi
   case "$previous" in
@@ -76,12 +76,13 @@ _monitor() {
   case "$command" in
     judge) options='--explain --width --ask --workers --beyond-width --fail-on --format -h --help' ;;
     check) options='--explain --width --ask -h --help' ;;
-    draw) options='--explain --width --ask --predicate --evidence --from --all -h --help' ;;
+    draw) options='--explain --width --ask --beyond-width --predicate --evidence --from --all -h --help' ;;
     serve) options='--explain --width --ask --port --bind --socket --port-file --watchers --wait --keep --workers --beyond-width --fail-on -h --help' ;;
     explore) options='--explain --width --ask --workers --beyond-width --fail-on --never --always --sometimes --notes --link -h --help' ;;
     test) options='--explain --width --ask --workers --never --always --sometimes -h --help' ;;
+    infer) options='--explain -h --help' ;;
     help)
-      COMPREPLY=($(compgen -W 'judge check draw serve explore test help' -- "$current"))
+      COMPREPLY=($(compgen -W 'judge check draw serve explore test infer help' -- "$current"))
       return ;;
     *) return ;;
   esac

@@ -1,7 +1,7 @@
 #!/usr/bin/env bash
 # compare.sh [PROGRAM]: runs the program on each example, and compares what it writes and its status with what is
-# stored. Each example is judged from its files, and again as a bundle, and drawn; one with a report-beyond-width is
-# judged with --beyond-width too, and drawn by that report. Each finding is what a check writes, and nothing is drawn of
+# stored. Each example is judged from its files, and again as a bundle, and drawn with its report and without; one with a
+# report-beyond-width is judged with --beyond-width too, and drawn by that report. Each finding is what a check writes, and nothing is drawn of
 # a bad report or of a session that is refused, but for a causal cycle. The last line says how many were compared; the
 # status is 1 if any differs.
 # PROGRAM is crates/monitor/out/monitor if it isn't given.
@@ -76,6 +76,10 @@ for session in */session.json; do
   fi
   "$program" draw "$session" "$report" "$folder"/*.stream > "$written" 2> /dev/null
   compare "draw $folder" "$picture" "$wanted" "$?"
+  beyond=()
+  [ "$report" = "$folder/report" ] || beyond=(--beyond-width)
+  "$program" draw "$session" "$folder"/*.stream "${beyond[@]}" > "$written" 2> /dev/null
+  compare "draw $folder without its report" "$picture" "$wanted" "$?"
 done
 
 {

@@ -1,13 +1,15 @@
 """Tests of monitor_infer: python3 -m unittest discover -s recorders/python"""
 import contextlib
+import glob
 import io
 import json
 import os
+import subprocess
 import tempfile
 import unittest
 
 import monitor_infer as infer
-from judging import needs_program, report_of
+from judging import FOLDER, PROGRAM, needs_program, report_of
 from monitor_recorder import Recorder
 
 END = '{"end":true}\n'
@@ -97,6 +99,49 @@ class Documents(Case):
         self.assertEqual(report_of(self.run_on(self.folder)[1], texts),
                          "session 2 processes 4 events 0 messages\nreplace_this possibly no\n"
                          "replace_this definitely no right,right,left,left\n")
+
+
+def inferred(paths):
+    """What the program infers of the streams: its status, its output and its errors."""
+    done = subprocess.run([PROGRAM, "infer", *paths], capture_output=True, encoding="utf-8", timeout=60)
+    return done.returncode, done.stdout, done.stderr
+
+
+@needs_program
+class Program(Case):
+    """The program's command `infer` writes the same bytes."""
+
+    def test_the_examples(self):
+        found = 0
+        for folder in sorted(glob.glob(os.path.join(FOLDER, "..", "..", "examples", "*"))):
+            streams = sorted(glob.glob(os.path.join(folder, "*.stream")))
+            if not 1 <= len(streams) <= infer.PROCESS_LIMIT:
+                continue
+            with self.subTest(folder=folder):
+                self.assertEqual(inferred(streams), self.run_on(*streams))
+            found += 1
+        self.assertGreater(found, 10)
+
+    def test_streams_in_another_order_and_cut_short(self):
+        left = self.file("left.stream", '{"process":"left"}\n{"set":{"y":1,"x":2}}\n \t\r\n{"set":{"x":3}}\n' + END)
+        right = self.file("right.stream", '{"process":"right"}\n{"recv":"m"}\n{"recv":"\\u006d"}\n{"set":{"y')
+        for paths in ([left, right], [right, left]):
+            status, out, errors = self.run_on(*paths)
+            self.assertEqual((status, errors), (0, ""))
+            self.assertIn('"version":2', out)
+            self.assertEqual(inferred(paths), (status, out, errors))
+
+    def test_what_is_refused(self):
+        a = self.file("a.stream", A + END)
+        for name, text in (("empty", ""), ("event", "{}\n"), ("field", A + '{"sett":{"x":1}}\n'),
+                           ("name", A + '{"set":{"a-b":1}}\n'), ("who", '{"process":"or"}\n'),
+                           ("float", A + '{"set":{"x":1.0}}\n'), ("zero", A + '{"set":{"x":-0}}\n'),
+                           ("torn", A + '{"set":\n{}\n'), ("again", A)):
+            path = self.file(name + ".stream", text)
+            self.refused(a, path)
+            status, out, errors = inferred([a, path])
+            self.assertEqual((status, out), (1, ""))
+            self.assertTrue(errors.startswith(f"monitor: no document: {path}"), errors)
 
 
 class Refusals(Case):

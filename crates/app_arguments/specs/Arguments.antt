@@ -19,7 +19,7 @@ use Rattle.out_picture.specs.declared.extent.Extent.{Extent}
 use Rattle.out_picture.specs.declared.extent.Extent.TheVariants.{From, All}
 use Rattle.out_picture.specs.declared.kind.Kind.{Kind}
 use Rattle.out_picture.specs.declared.kind.Kind.TheVariants.{Possibly, Definitely}
-use Rattle.app_arguments.specs.Statuses.{PageOptions, Request, JudgeInput, JudgeFiles, CheckFiles, DrawFiles, ServeStreams, ExploreFiles, TestRuns, ShowHelp, ShowVersion, Unclear}
+use Rattle.app_arguments.specs.Statuses.{PageOptions, Request, JudgeInput, JudgeFiles, CheckFiles, DrawFiles, ServeStreams, ExploreFiles, TestRuns, InferDocument, ShowHelp, ShowVersion, Unclear}
 
 -- ---- what the parser found
 
@@ -99,15 +99,14 @@ abbrev pub AreConditions : Option Text → List Condition → Type 0
 AreConditions None conditions = conditions ≡ []
 AreConditions (Some list) conditions = AreLawful conditions × (list ≡ list_text conditions)
 
--- the names of the files of a session document and of its streams
-abbrev pub NamesSession : List Row → (document : Text) (streams : List Text) → Type 0
-NamesSession rows document streams =
-    (first_of (codes "SPEC") rows ≡ Some document) × (all_of (codes "STREAM") rows ≡ Some streams)
+-- the names of the files of a session document and of those beside it, which have this id
+abbrev pub NamesSession : List Row → (id document : Text) (files : List Text) → Type 0
+NamesSession rows id document files = (first_of (codes "SPEC") rows ≡ Some document) × (all_of id rows ≡ Some files)
 
 -- what a judgement of a session's files is asked for
 pub record NamesJudgement (rows : List Row) (document : Text) (streams : List Text) (options : Options)
     (fail_on : List Condition) : Type 0 where
-  pub session : NamesSession rows document streams
+  pub session : NamesSession rows (codes "STREAM") document streams
   pub asked : NamesAllOptions rows options
   pub conditions : AreConditions (first_of (codes "LIST") rows) fail_on
   pub some_workers : HasWorkers rows
@@ -198,10 +197,11 @@ pub record NamesTest (rows : List Row) (runs : List Text) (options : Options) (w
 abbrev pub command_for : Request → Option Text
 command_for (JudgeFiles options fail_on format document streams) = Some (codes "judge")
 command_for (CheckFiles options document report streams) = Some (codes "check")
-command_for (DrawFiles options scope document report streams) = Some (codes "draw")
+command_for (DrawFiles options scope document files) = Some (codes "draw")
 command_for (ServeStreams options fail_on document place port_file watchers wait keep) = Some (codes "serve")
 command_for (ExploreFiles options fail_on page document streams) = Some (codes "explore")
 command_for (TestRuns options wishes runs) = Some (codes "test")
+command_for (InferDocument streams) = Some (codes "infer")
 command_for _ = None
 
 -- what the rows of that command name
@@ -209,17 +209,17 @@ abbrev pub Names : List Row → Request → Type 0
 Names rows (JudgeFiles options fail_on format document streams) =
     NamesJudgement rows document streams options fail_on × IsFormatOf (first_of (codes "FORMAT") rows) format
 Names rows (CheckFiles options document report streams) =
-    NamesSession rows document streams × NamesPlainOptions rows options
+    NamesSession rows (codes "STREAM") document streams × NamesPlainOptions rows options
     × (first_of (codes "REPORT") rows ≡ Some report)
-Names rows (DrawFiles options scope document report streams) =
-    NamesSession rows document streams × NamesPlainOptions rows options
-    × (first_of (codes "REPORT") rows ≡ Some report) × NamesScope rows scope
+Names rows (DrawFiles options scope document files) =
+    NamesSession rows (codes "FILE") document files × NamesAllOptions rows options × NamesScope rows scope
 Names rows (ServeStreams options fail_on document place port_file watchers wait keep) =
     NamesService rows document place port_file watchers wait keep × NamesAllOptions rows options
     × AreConditions (first_of (codes "LIST") rows) fail_on × HasWorkers rows
 Names rows (ExploreFiles options fail_on page document streams) =
     NamesJudgement rows document streams options fail_on × NamesPage rows page
 Names rows (TestRuns options wishes runs) = NamesTest rows runs options wishes
+Names rows (InferDocument streams) = all_of (codes "STREAM") rows ≡ Some streams
 Names rows _ = ⊥
 
 -- the rows of a command name this, which is asked for by it

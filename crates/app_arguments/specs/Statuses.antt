@@ -32,9 +32,9 @@ pub data Request : Type 0 where
   -- to check a report by a session document, with what is asked beside it, and streams of events, each in a file of
   -- this name
   CheckFiles : (options : Options) (document report : List ℕ) (streams : List (List ℕ)) → Request
-  -- to draw a report with a session document, with what is asked beside it, and streams of events, each in a file of
-  -- this name: as much of it as this
-  DrawFiles : (options : Options) (scope : Scope) (document report : List ℕ) (streams : List (List ℕ)) → Request
+  -- to draw a session document, with what is asked beside it, and streams of events, each in a file of this name, with
+  -- the report that may be named before them: as much of it as this
+  DrawFiles : (options : Options) (scope : Scope) (document : List ℕ) (files : List (List ℕ)) → Request
   -- to judge a session document, in the file of this name, and streams of events that come by connections to this
   -- place, in the same way; to name its port in a file, if that is asked for; to show meanwhile how far they are read
   -- to this many watchers; to wait no longer than this many seconds for the connections, and to keep the session in the
@@ -48,6 +48,8 @@ pub data Request : Type 0 where
   -- to judge recorded runs, each in the folder of this name, with what is asked beside their documents, and to fail on
   -- those that aren't as wished
   TestRuns : (options : Options) (wishes : List Wish) (runs : List (List ℕ)) → Request
+  -- to write the first session document of streams of events, each in a file of this name
+  InferDocument : (streams : List (List ℕ)) → Request
   -- to show the help
   ShowHelp : Request
   -- to say which version of the program this is

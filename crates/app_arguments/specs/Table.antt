@@ -95,7 +95,7 @@ check_arguments = on_document ++ (placed (codes "REPORT") kinds.Name ∷ streams
 
 abbrev pub draw_arguments : List Argument
 draw_arguments =
-    on_document ++ (placed (codes "REPORT") kinds.Name ∷ streams
+    on_document ++ (placed (codes "FILE") kinds.Names ∷ beyond_width
     ∷ option (codes "PREDICATE") (codes "predicate") kinds.Text ∷ option (codes "KIND") (codes "evidence") kinds.Text
     ∷ option (codes "COLUMN") (codes "from") (kinds.Number 1 column_number_limit)
     ∷ option (codes "ALL") (codes "all") kinds.Flag ∷ [])
@@ -117,11 +117,15 @@ explore_arguments =
 abbrev pub test_arguments : List Argument
 test_arguments = placed (codes "RUN") kinds.Names ∷ asking ++ (workers ∷ wishing)
 
+abbrev pub infer_arguments : List Argument
+infer_arguments = streams ∷ explain ∷ []
+
 -- the commands, by their names
 abbrev pub commands : List (Text × List Argument)
 commands =
     (codes "judge", judge_arguments) ∷ (codes "check", check_arguments) ∷ (codes "draw", draw_arguments)
-    ∷ (codes "serve", serve_arguments) ∷ (codes "explore", explore_arguments) ∷ (codes "test", test_arguments) ∷ []
+    ∷ (codes "serve", serve_arguments) ∷ (codes "explore", explore_arguments) ∷ (codes "test", test_arguments)
+    ∷ (codes "infer", infer_arguments) ∷ []
 
 -- ---- the command line
 

@@ -22,7 +22,7 @@ use Rattle.app_arguments.specs.declared.place.Place.TheVariants.{Port, Socket}
 use Rattle.app_arguments.specs.declared.request.Judgement.{Judgement}
 use Rattle.app_arguments.specs.declared.request.PageOptions.{PageOptions}
 use Rattle.app_arguments.specs.declared.request.Request.{Request}
-use Rattle.app_arguments.specs.declared.request.Request.TheVariants.{Bundle, Judge, Check, Draw, Serve, Explore, Test}
+use Rattle.app_arguments.specs.declared.request.Request.TheVariants.{Bundle, Judge, Check, Draw, Serve, Explore, Test, Infer}
 use Rattle.app_arguments.specs.declared.request.Service.{Service}
 use Rattle.app_arguments.specs.declared.request.SessionNames.{SessionNames}
 use Rattle.app_arguments.specs.declared.table.Row as rows
@@ -76,9 +76,8 @@ request_view (Judge judgement format) =
     (session_view judgement.names).0 (session_view judgement.names).1
 request_view (Check report names) =
     asked.CheckFiles (options_view names.options) (session_view names).0 report.now (session_view names).1
-request_view (Draw report scope names) =
-    asked.DrawFiles (options_view names.options) (scope_view scope) (session_view names).0 report.now
-    (session_view names).1
+request_view (Draw scope names) =
+    asked.DrawFiles (options_view names.options) (scope_view scope) (session_view names).0 (session_view names).1
 request_view (Serve service) =
     asked.ServeStreams (options_view service.options) (fail_on_view service.fail_on) service.spec.now
     (place_view service.place) (text_view service.port_file) service.watchers service.wait (text_view service.keep)
@@ -87,6 +86,7 @@ request_view (Explore judgement page) =
     (session_view judgement.names).0 (session_view judgement.names).1
 request_view (Test test) =
     asked.TestRuns (options_view test.options) (wishes_view test.wishes.items) (names_view test.runs.items)
+request_view (Infer streams) = asked.InferDocument (names_view streams.items)
 
 -- the arguments ask for this
 abbrev pub IsAsked : List Text → Request → Type 0

@@ -8,7 +8,7 @@ ghost use Rattle.app_arguments.specs.Formats as written;
 ghost use Rattle.app_arguments.specs.Places as places;
 ghost use Rattle.app_arguments.specs.Table.{monitor_app, port_limit, watcher_limit};
 ghost use Rattle.app_arguments.specs.Views.{Finds, FindsJudgement, FindsRequest, FindsService, IsAsked, IsAskedIf, IsErrorOf, extent_by, format_view, names_view, page_view, place_view, rows_in, session_view, text_view};
-ghost use Rattle.app_arguments.specs.Wishes.{named_wishes, wishes_of};
+ghost use Rattle.app_arguments.specs.Wishes.{named_wishes};
 ghost use Rattle.judge_runs.specs.Views.{wishes_view};
 ghost use Rattle.out_picture.specs.Scopes.{Scope, scope_view};
 ghost use Rattle.out_picture.specs.declared.extent.Extent as extents;
@@ -23,7 +23,7 @@ use super::help::{EXTENT_USAGE, FORMAT_USAGE, KIND_USAGE, LIST_USAGE, PLACE_USAG
 use super::place::Place;
 use super::request::{Judgement, PageOptions, Request, Service, SessionNames, Test};
 use super::table::{PORT_LIMIT, WATCHER_LIMIT};
-use super::wishes::{named_wishes, wishes_of};
+use super::wishes::{named_wishes, or_none_ever};
 use super::workers::Workers;
 use clap::error::ErrorKind;
 use clap::{ArgMatches, Command, Error};
@@ -143,23 +143,24 @@ fn conditions_of<'a>(
     FailOn::of(alloc, list)
 }
 
-/// The names of a session's files, with what is asked of it, if all are there.
+/// The names of a session's document and of the files beside it, of this id, with what is asked, if all are there.
 fn session_names<'a>(
     alloc: Global,
     matches: &ArgMatches<'a>,
+    id: &str,
     options: Options<'a>,
 ) -> Result<Option<SessionNames<'a>>, AllocError>
     ensures names { IfOk result (λ names. IfSome names (λ names.
-        NamesSession (rows_in matches.now) (session_view names).0 (session_view names).1)) }
+        NamesSession (rows_in matches.now) id.now (session_view names).0 (session_view names).1)) }
     ensures options { IfOk result (λ names. IfSome names (λ names.
         options_view names.options ≡ options_view options.entry)) }
-    ensures none { IfOk result (λ names. names ≡ None → (document : Text) (streams : List Text)
-        → ¬ NamesSession (rows_in matches.now) document streams) }
+    ensures none { IfOk result (λ names. names ≡ None → (document : Text) (files : List Text)
+        → ¬ NamesSession (rows_in matches.now) id.now document files) }
 {
     let Some(spec) = text_of(matches, "SPEC") else {
         return Ok(None);
     };
-    let Some(streams) = names_of(alloc, matches, "STREAM")? else {
+    let Some(streams) = names_of(alloc, matches, id)? else {
         return Ok(None);
     };
     Ok(Some(SessionNames {
@@ -180,7 +181,7 @@ fn judgement_of<'a>(
         return Ok(None);
     };
     let options = all_options(alloc, matches)?;
-    let Some(names) = session_names(alloc, matches, options)? else {
+    let Some(names) = session_names(alloc, matches, "STREAM", options)? else {
         return Ok(None);
     };
     let Some(fail_on) = conditions_of(alloc, matches)? else {
@@ -251,7 +252,7 @@ fn check_request<'a>(
         return Ok(None);
     };
     let options = options_of(alloc, matches, false)?;
-    let Some(names) = session_names(alloc, matches, options)? else {
+    let Some(names) = session_names(alloc, matches, "STREAM", options)? else {
         return Ok(None);
     };
     Ok(Some(Request::Check(report, names)))
@@ -319,14 +320,11 @@ fn draw_request<'a>(
     let Some(scope) = scope_of(matches) else {
         return Ok(None);
     };
-    let Some(report) = text_of(matches, "REPORT") else {
+    let options = all_options(alloc, matches)?;
+    let Some(names) = session_names(alloc, matches, "FILE", options)? else {
         return Ok(None);
     };
-    let options = options_of(alloc, matches, false)?;
-    let Some(names) = session_names(alloc, matches, options)? else {
-        return Ok(None);
-    };
-    Ok(Some(Request::Draw(report, scope, names)))
+    Ok(Some(Request::Draw(scope, names)))
 }
 
 /// Whether the text is one of an IP address.
@@ -448,15 +446,25 @@ fn serve_request<'a>(
     Ok(Some(Request::Serve(service)))
 }
 
-/// What is asked of a page.
-fn page_of<'a>(alloc: Global, matches: &ArgMatches<'a>) -> Result<PageOptions<'a>, AllocError>
-    ensures { IfOk result (λ page. NamesPage (rows_in matches.now) (page_view page)) }
+/// What is wished of predicates by their names.
+fn wished_of<'a>(alloc: Global, matches: &ArgMatches<'a>) -> Result<Vec<Wish<'a>>, AllocError>
+    ensures { IfOk result (λ wishes. wishes_view wishes.items ≡ named_wishes
+        (texts_of (rows_in matches.now) (codes "NEVER"))
+        (texts_of (rows_in matches.now) (codes "ALWAYS"))
+        (texts_of (rows_in matches.now) (codes "SOMETIMES"))) }
 {
     let never = texts_of(alloc, matches, "NEVER")?;
     let always = texts_of(alloc, matches, "ALWAYS")?;
     let sometimes = texts_of(alloc, matches, "SOMETIMES")?;
+    named_wishes(alloc, &never, &always, &sometimes)
+}
+
+/// What is asked of a page.
+fn page_of<'a>(alloc: Global, matches: &ArgMatches<'a>) -> Result<PageOptions<'a>, AllocError>
+    ensures { IfOk result (λ page. NamesPage (rows_in matches.now) (page_view page)) }
+{
     Ok(PageOptions {
-        wishes: named_wishes(alloc, &never, &always, &sometimes)?,
+        wishes: wished_of(alloc, matches)?,
         notes: texts_of(alloc, matches, "NOTES")?,
         link: text_of(matches, "PATTERN"),
     })
@@ -476,19 +484,6 @@ fn explore_request<'a>(
     Ok(Some(Request::Explore(judgement, page)))
 }
 
-/// What is wished of the predicates of recorded runs.
-fn wished_of<'a>(alloc: Global, matches: &ArgMatches<'a>) -> Result<Vec<Wish<'a>>, AllocError>
-    ensures { IfOk result (λ wishes. wishes_view wishes.items ≡ wishes_of
-        (texts_of (rows_in matches.now) (codes "NEVER"))
-        (texts_of (rows_in matches.now) (codes "ALWAYS"))
-        (texts_of (rows_in matches.now) (codes "SOMETIMES"))) }
-{
-    let never = texts_of(alloc, matches, "NEVER")?;
-    let always = texts_of(alloc, matches, "ALWAYS")?;
-    let sometimes = texts_of(alloc, matches, "SOMETIMES")?;
-    wishes_of(alloc, &never, &always, &sometimes)
-}
-
 /// What the arguments of `test` ask for, if a run is named.
 fn test_request<'a>(
     alloc: Global,
@@ -503,13 +498,26 @@ fn test_request<'a>(
         return Ok(None);
     };
     let options = options_of(alloc, matches, true)?;
-    let wishes = wished_of(alloc, matches)?;
+    let wishes = or_none_ever(wished_of(alloc, matches)?)?;
     Ok(Some(Request::Test(Test {
         runs,
         options,
         wishes,
         workers,
     })))
+}
+
+/// What the arguments of `infer` ask for, if a stream is named.
+fn infer_request<'a>(
+    alloc: Global,
+    matches: &ArgMatches<'a>,
+) -> Result<Option<Request<'a>>, AllocError>
+    ensures { IfOk result (FindsRequest (codes "infer") (rows_in matches.now)) }
+{
+    let Some(streams) = names_of(alloc, matches, "STREAM")? else {
+        return Ok(None);
+    };
+    Ok(Some(Request::Infer(streams)))
 }
 
 /// What is asked for by the command of this name, by what the parser found, if that names anything.
@@ -527,6 +535,7 @@ fn request_by_command<'a>(
         "serve" => serve_request(alloc, matches),
         "explore" => explore_request(alloc, matches),
         "test" => test_request(alloc, matches),
+        "infer" => infer_request(alloc, matches),
         _ => Ok(None),
     }
 }

@@ -3,17 +3,18 @@ ghost use Rattle.clap.specs.Simple.{app_of};
 ghost use Rattle.clap.specs.Walk.{rule_of};
 ghost use Rattle.clap.specs.declared.builder.command.Command.TheViews.{out-Command};
 ghost use Rattle.app_arguments.specs.Statuses.{IsVersionLine};
-ghost use Rattle.app_arguments.specs.Table.{check_arguments, draw_arguments, explore_arguments, judge_arguments, monitor_app, plain_app, rule_for, serve_arguments, test_arguments, with_arguments, with_commands};
+ghost use Rattle.app_arguments.specs.Table.{check_arguments, draw_arguments, explore_arguments, infer_arguments, judge_arguments, monitor_app, plain_app, rule_for, serve_arguments, test_arguments, with_arguments, with_commands};
 ghost use Rattle.app_arguments.specs.Views.{row_view};
 ghost use Rattle.std.specs.Prelude.{◌≡◌, ◌∷◌, IfOk, [], codes, false, map};
 
 use super::help::{
     ABOUT, AFTER, CHECK_ABOUT, CHECK_AFTER, DRAW_ABOUT, DRAW_AFTER, EXPLORE_ABOUT, EXPLORE_AFTER,
-    JUDGE_ABOUT, JUDGE_AFTER, SERVE_ABOUT, SERVE_AFTER, TEST_ABOUT, TEST_AFTER,
+    INFER_ABOUT, INFER_AFTER, JUDGE_ABOUT, JUDGE_AFTER, SERVE_ABOUT, SERVE_AFTER, TEST_ABOUT,
+    TEST_AFTER,
 };
 use super::table::{
     ArgumentKind, Row, check_arguments, draw_arguments, explain, explore_arguments,
-    judge_arguments, serve_arguments, test_arguments,
+    infer_arguments, judge_arguments, serve_arguments, test_arguments,
 };
 use clap::builder::ValueParser;
 use clap::{Arg, ArgAction, Command};
@@ -148,7 +149,7 @@ fn with_files<'a>(alloc: Global, program: Command<'a>) -> Result<Command<'a>, Al
 fn with_others<'a>(alloc: Global, program: Command<'a>) -> Result<Command<'a>, AllocError>
     ensures { IfOk result (λ whole. app_of whole ≡ with_commands (app_of program.entry)
         ((codes "serve", serve_arguments) ∷ (codes "explore", explore_arguments)
-        ∷ (codes "test", test_arguments) ∷ [])) }
+        ∷ (codes "test", test_arguments) ∷ (codes "infer", infer_arguments) ∷ [])) }
 {
     let program = with_command(
         alloc,
@@ -166,13 +167,21 @@ fn with_others<'a>(alloc: Global, program: Command<'a>) -> Result<Command<'a>, A
         EXPLORE_ABOUT,
         EXPLORE_AFTER,
     )?;
-    with_command(
+    let program = with_command(
         alloc,
         program,
         "test",
         &test_arguments(),
         TEST_ABOUT,
         TEST_AFTER,
+    )?;
+    with_command(
+        alloc,
+        program,
+        "infer",
+        &infer_arguments(),
+        INFER_ABOUT,
+        INFER_AFTER,
     )
 }
 

@@ -5,9 +5,10 @@ pub(crate) const ABOUT: &str =
     "Judges predicates on a distributed computation. The command `judge` reads a session document, and one stream of \
 events for each process, from files. With no command they are read from the standard input, as one bundle. \
 A report is written to the standard output. The command `check` checks the evidence in such a report, and `draw` \
-draws it. \
+draws it, or a session of which the report is made first. \
 The command `serve` judges streams that processes send over TCP or a Unix socket while they run, `explore` writes a \
-page on which a run is explored, and `test` says of many recorded runs which are not as wished.";
+page on which a run is explored, `test` says of many recorded runs which are not as wished, and `infer` writes a \
+first session document of recorded streams.";
 
 /// What the program's help ends with.
 pub(crate) const AFTER: &str = "\
@@ -16,9 +17,9 @@ error; in a terminal, or with MONITOR_EXPLAIN=1 in the environment, it is so wit
 
 Status:
   0  The session is judged, and no condition of --fail-on is met; all tested runs pass; a check finds nothing bad; the \
-picture, the page or the help is written
-  1  The session is refused; a tested run could not be judged, and none fails; a check finds something bad, or what \
-stands against the picture
+picture, the page, the first document or the help is written
+  1  The session, or a stream of a first document, is refused; a tested run could not be judged, and none fails; a \
+check finds something bad, or what stands against the picture
   2  The arguments are refused, or name a predicate or evidence that isn't there
   3  A file can't be opened or read, a port can't be bound, a stream can't be accepted or doesn't come in time, or the \
 output or what is to be kept can't be written
@@ -85,20 +86,22 @@ examples/ten-lines/left.stream examples/ten-lines/right.stream";
 
 /// What the help says of `draw`.
 pub(crate) const DRAW_ABOUT: &str =
-    "Draws a computation with the cut or the observation that a report shows of a predicate";
+    "Draws a computation with the cut or the observation that a report, or else a judgement, shows of a predicate";
 
 /// What the help of `draw` ends with.
 pub(crate) const DRAW_AFTER: &str =
-    "A picture is written to the standard output, as SVG. With a cut the events are numbered in the order of an \
-observation through it. At most 24 columns are drawn, around the evidence, if nothing else is asked for. Of a session \
-that is refused for a causal cycle, as the report says, the run is drawn with its cycle marked. The report is read and \
-held against the document and the streams as `check` does. The status is 0 if the picture is written, 1 if something \
-that a check finds stands against it, which is then written to the standard error, 2 if the arguments are refused or \
-there is no predicate of the name, or no evidence of the kind, that is asked for, 3 if a file can't be opened or read \
-or the output can't be written, and 4 if memory runs out.\n\n\
+    "A picture is written to the standard output, as SVG. After the document stands the report and then the streams. \
+As many files as the document has processes, or one, are the streams alone: the session is judged first, and its own \
+report is drawn. With a cut the events are numbered in the order of an observation through it. At most 24 \
+columns are drawn, around the evidence, if nothing else is asked for. Of a session \
+that is refused for a causal cycle, as the report says, the run is drawn with its cycle marked. A report is read and \
+held against the document and the streams as `check` does. The status is 0 if the picture is written, 1 if the session \
+is refused or something that a check finds stands against the picture, which is then written to the standard error, 2 \
+if the arguments are refused or there is no predicate of the name, or no evidence of the kind, that is asked for, 3 if \
+a file can't be opened or read or the output can't be written, and 4 if memory runs out.\n\n\
 The formats are described in docs/SPECIFICATION.md. An example, at the top of the repository:\n  \
-crates/monitor/out/monitor draw examples/ten-lines/session.json examples/ten-lines/report \
-examples/ten-lines/left.stream examples/ten-lines/right.stream > picture.svg";
+crates/monitor/out/monitor draw examples/ten-lines/session.json examples/ten-lines/left.stream \
+examples/ten-lines/right.stream > picture.svg";
 
 /// What the help says of `serve`.
 pub(crate) const SERVE_ABOUT: &str =
@@ -163,3 +166,16 @@ pass, 5 if one fails, or else 1 if one could not be judged, 2 if the arguments a
 written, and 4 if memory runs out.\n\n\
 The formats are described in docs/SPECIFICATION.md. An example, at the top of the repository:\n  \
 crates/monitor/out/monitor test examples/redis-lock examples/redis-lock-fenced";
+
+/// What the help says of `infer`.
+pub(crate) const INFER_ABOUT: &str = "Writes a first session document of recorded streams";
+
+/// What the help of `infer` ends with.
+pub(crate) const INFER_AFTER: &str =
+    "The document is written to the standard output: each process in the order of the streams, each variable that its \
+events set, with the initial value 0, the version 2 if a message is received more than once, and one predicate, false, \
+under the name replace_this. Put your question there, or ask it by --ask. The status is 0 if the document is written, \
+1 if a stream is refused, 2 if the arguments are refused, 3 if a file can't be opened or read or the output can't be \
+written, and 4 if memory runs out.\n\n\
+The formats are described in docs/SPECIFICATION.md. An example, at the top of the repository:\n  \
+crates/monitor/out/monitor infer examples/ten-lines/left.stream examples/ten-lines/right.stream > session.json";

@@ -86,12 +86,15 @@ pub enum Request<'a> {
     Judge(Judgement<'a>, Format),
     /// To check the report in the file of this name against a session document and streams.
     Check(&'a str, SessionNames<'a>),
-    /// To draw the report in the file of this name with a session document and streams, as it is asked for.
-    Draw(&'a str, DrawOptions<'a>, SessionNames<'a>),
+    /// To draw a session document and streams, as it is asked for. Before the streams a report may be named; of what
+    /// else the run is judged first.
+    Draw(DrawOptions<'a>, SessionNames<'a>),
     /// To judge a session document and streams that come by connections.
     Serve(Service<'a>),
     /// To judge a session document and streams, and write the page on which their run is explored, as it is asked for.
     Explore(Judgement<'a>, PageOptions<'a>),
     /// To judge recorded runs, and fail on those that aren't as wished.
     Test(Test<'a>),
+    /// To write the first session document of the streams in the files of these names.
+    Infer(Vec<&'a str>),
 }

@@ -1,5 +1,5 @@
 //! The table of the program's commands: what each takes, and what its help says of it.
-ghost use Rattle.app_arguments.specs.Table.{asking, beyond_width, check_arguments, column_number_limit, draw_arguments, explain, explore_arguments, judge_arguments, option, placed, port_limit, serve_arguments, streams, test_arguments, wait_limit, watcher_limit, workers};
+ghost use Rattle.app_arguments.specs.Table.{asking, beyond_width, check_arguments, column_number_limit, draw_arguments, explain, explore_arguments, infer_arguments, judge_arguments, option, placed, port_limit, serve_arguments, streams, test_arguments, wait_limit, watcher_limit, workers};
 ghost use Rattle.app_arguments.specs.Views.{row_view};
 ghost use Rattle.app_arguments.specs.declared.table.ArgumentKind.TheVariants as kinds;
 ghost use Rattle.def_format.specs.Limits.{width_limit, worker_limit};
@@ -201,6 +201,17 @@ fn report() -> Row
     ensures { row_view result ≡ placed (codes "REPORT") kinds.Name }
 {
     placed("REPORT", ArgumentKind::Name, "The report")
+}
+
+/// What is drawn beside the document.
+fn drawn_files() -> Row
+    ensures { row_view result ≡ placed (codes "FILE") kinds.Names }
+{
+    placed(
+        "FILE",
+        ArgumentKind::Names,
+        "The report and then the streams, one for each process, or the streams alone, which are judged first",
+    )
 }
 
 /// The predicate that is drawn.
@@ -477,8 +488,8 @@ pub(crate) fn draw_arguments() -> [Row; 10]
         explain(),
         width(),
         ask(),
-        report(),
-        streams(),
+        drawn_files(),
+        beyond_width(),
         predicate(),
         evidence(),
         from(),
@@ -543,4 +554,11 @@ pub(crate) fn test_arguments() -> [Row; 8]
         always(),
         sometimes(),
     ]
+}
+
+/// What `infer` takes, in the order of its help.
+pub(crate) fn infer_arguments() -> [Row; 2]
+    ensures { map row_view result ≡ infer_arguments }
+{
+    [streams(), explain()]
 }

@@ -1,7 +1,7 @@
 //! What is wished of the predicates of recorded runs, by their names.
 ghost use Rattle.app_arguments.specs.Views.{names_view};
 ghost use Rattle.judge_runs.specs.Views.{wish_kind_view, wishes_view};
-ghost use Rattle.app_arguments.specs.Wishes.{named_wishes, or_none_ever, wishes_for, wishes_of};
+ghost use Rattle.app_arguments.specs.Wishes.{named_wishes, or_none_ever, wishes_for};
 ghost use Rattle.std.specs.Prelude.{◌≡◌, ◌++◌, IfOk, OnOk};
 
 use judge_runs::{Wish, WishKind};
@@ -26,7 +26,10 @@ fn push_wishes<'a>(
 }
 
 /// These wishes, or that no predicate ever holds, if there are none.
-fn or_none_ever<'a>(wishes: Vec<Wish<'a>>) -> Result<Vec<Wish<'a>>, AllocError>
+///
+/// # Errors
+/// An allocation was refused.
+pub(crate) fn or_none_ever<'a>(wishes: Vec<Wish<'a>>) -> Result<Vec<Wish<'a>>, AllocError>
     ensures { IfOk result (λ all. wishes_view all.items ≡ or_none_ever (wishes_view wishes.entry.items)) }
 {
     let mut all = wishes;
@@ -58,20 +61,4 @@ pub(crate) fn named_wishes<'a>(
     push_wishes(&mut wishes, WishKind::Always, always)?;
     push_wishes(&mut wishes, WishKind::Sometimes, sometimes)?;
     Ok(wishes)
-}
-
-/// The same; with no name, that no predicate ever holds.
-///
-/// # Errors
-/// An allocation was refused.
-pub(crate) fn wishes_of<'a>(
-    alloc: Global,
-    never: &[&'a str],
-    always: &[&'a str],
-    sometimes: &[&'a str],
-) -> Result<Vec<Wish<'a>>, AllocError>
-    ensures { IfOk result (λ wishes. wishes_view wishes.items
-        ≡ wishes_of (names_view never.now) (names_view always.now) (names_view sometimes.now)) }
-{
-    or_none_ever(named_wishes(alloc, never, always, sometimes)?)
 }

@@ -455,36 +455,57 @@ What to do: leave --evidence out, or name a predicate whose answer has such evid
     )
 }
 
-/// Explains how a run that draws ended.
+/// Explains why no file of a picture can be read: which can't be opened or read, or else that one has too many bytes.
+fn put_undrawn_files<Y: System>(
+    out: &mut Vec<u8>,
+    world: &World<'_, Y>,
+    names: &SessionNames<'_>,
+) -> Result<(), AllocError> {
+    let of_document = put_unread(out, world.notes.document(), names.spec)?;
+    if put_unread_streams(out, world, &names.streams)? || of_document {
+        return Ok(());
+    }
+    say(
+        out,
+        "One of the files has too many bytes: a report may have 268435456, and a stream that is drawn without a \
+report 16777216.\n",
+    )
+}
+
+/// Explains how a run that draws ended. The report that is due is there if it was drawn.
 fn put_drawing<Y: System>(
     out: &mut Vec<u8>,
     world: &World<'_, Y>,
-    report: &str,
+    due: Option<&Report>,
     scope: &DrawOptions<'_>,
     names: &SessionNames<'_>,
     end: &Result<DrawOutcome, EngineFault>,
 ) -> Result<(), AllocError> {
-    match end {
-        Ok(DrawOutcome::NoPredicate) => put_undrawn(out, world, scope, names),
-        Ok(DrawOutcome::NoEvidence) => explain_no_evidence(out),
-        Ok(DrawOutcome::Refused(_)) => explain_no_picture(out),
-        Ok(DrawOutcome::Written | DrawOutcome::CycleWritten) => Ok(()),
-        Err(fault) => put_fault(out, world, Some(report), names.spec, &names.streams, fault),
+    match (end, due) {
+        (Ok(DrawOutcome::NoPredicate), _) => put_undrawn(out, world, scope, names),
+        (Ok(DrawOutcome::NoEvidence), _) => explain_no_evidence(out),
+        (Ok(DrawOutcome::Refused(_)), Some(Report::Refused(refusal))) => {
+            put_refusal(out, world, names, refusal)
+        }
+        (Ok(DrawOutcome::Refused(_)), _) => explain_no_picture(out),
+        (Ok(DrawOutcome::Written | DrawOutcome::CycleWritten), _) => Ok(()),
+        (Err(EngineFault::Read), _) => put_undrawn_files(out, world, names),
+        (Err(fault), _) => put_fault(out, world, None, names.spec, &names.streams, fault),
     }
 }
 
-/// The explanation of how a run that draws ended, as far as it could be made; empty if none is wanted. What a check
-/// finds that stands against a picture is reported anyway.
+/// The explanation of how a run that draws ended, as far as it could be made; empty if none is wanted. The report that
+/// is due is there if it was drawn. What a check finds that stands against a picture is reported anyway.
 pub fn drawing_text<Y: System>(
     world: &World<'_, Y>,
-    report: &str,
+    due: Option<&Report>,
     scope: &DrawOptions<'_>,
     names: &SessionNames<'_>,
     end: &Result<DrawOutcome, EngineFault>,
 ) -> Vec<u8> {
     let mut out = Vec::new(world.alloc);
     if world.explain {
-        let _ = put_drawing(&mut out, world, report, scope, names, end);
+        let _ = put_drawing(&mut out, world, due, scope, names, end);
     }
     rows_of(world.alloc, out)
 }

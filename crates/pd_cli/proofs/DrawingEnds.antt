@@ -1,19 +1,16 @@
 -- What a run that draws leaves by the bytes that were read, before and after the flush.
-use Rattle.std.proofs.Common.{◌≡◌, ◌≤◌, ◌⊎◌, ◌∙◌, ℕ, List, length, sym, subst, Some, None, Option, Ok, Err, inl, inr}
+use Rattle.std.proofs.Common.{◌≡◌, ◌⊎◌, ◌∙◌, ℕ, List, sym, subst, Some, None, Option, Ok, Err, inl, inr}
 use Rattle.std.specs.Prelude.{Result}
 use Rattle.std.specs.Io.KnownBytes.{Keeps}
 use Rattle.def_format.specs.Documents.{Inquiry}
-use Rattle.def_format.specs.Limits.{report_byte_limit}
-use Rattle.app_arguments.specs.Statuses.{OfClaim}
-use Rattle.def_judgement.specs.Writes.{Source, whole_source}
-use Rattle.app_host.proofs.FilesRead.{whole_is_whole}
+use Rattle.def_judgement.specs.Writes.{Source}
 use Rattle.out_picture.specs.Scopes.{Scope}
 use Rattle.judge_draw.specs.Drawings.{ShowsEnd, WritesPicture}
 use Rattle.judge_draw.specs.declared.drawings.DrawOutcome.{DrawOutcome}
 use Rattle.judge_draw.specs.declared.drawings.DrawOutcome.TheVariants.{Written, CycleWritten, Refused, NoPredicate, NoEvidence}
 use Rattle.judge_session.specs.declared.fault.EngineFault.{EngineFault}
 use Rattle.judge_session.specs.declared.fault.EngineFault.TheVariants.{Memory, Write, Read, BundleLong}
-use Rattle.pd_cli.specs.Drawings.{DrawReadLeaves, Finishes, IsNoticeOf, OfDrawing}
+use Rattle.pd_cli.specs.Drawings.{DrawReadLeaves, DrawsReport, Finishes}
 use Rattle.app_host.proofs.WrittenSoFar.{appends_kept}
 
 -- what is kept twice is kept
@@ -23,21 +20,16 @@ kept_on (Some old) None c first then = absurd first
 kept_on (Some old) (Some mid) None first then = absurd then
 kept_on (Some old) (Some mid) (Some new) first then = then ∙ first
 
-module _ (document : Inquiry) (report : List ℕ) (inputs : List Source) (scope : Scope)
-    (short : length report ≤ report_byte_limit) where
+module _ (document : Inquiry) (report : List ℕ) (inputs : List Source) (scope : Scope) where
   abbrev Leaves : Result DrawOutcome EngineFault → (old new : Option (List ℕ)) → Type 0
-  Leaves result old new = DrawReadLeaves (OfDrawing (whole_source report) inputs scope document) result old new
-
-  -- what holds of the bytes that were read
-  of_read : (P : List ℕ → Type 0) → P report → OfClaim (whole_source report) P
-  of_read P holds = record { bytes = report; whole = whole_is_whole report; fits = short; holds = holds }
+  Leaves result old new = DrawReadLeaves (DrawsReport report inputs scope document) result old new
 
   -- the call failed
   pub drawing_failed : (fault : EngineFault) (old new : Option (List ℕ)) → (fault ≡ Memory) ⊎ (fault ≡ Write)
       → WritesPicture document report inputs scope (Err fault) old new
       → Leaves (Err fault) old new
   drawing_failed Memory old new is written = written
-  drawing_failed Write old new is written = of_read _ (inr written)
+  drawing_failed Write old new is written = inr written
   drawing_failed Read old new (inl is) written = absurd (cc)
   drawing_failed Read old new (inr is) written = absurd (cc)
   drawing_failed BundleLong old new (inl is) written = absurd (cc)
@@ -51,16 +43,16 @@ module _ (document : Inquiry) (report : List ℕ) (inputs : List Source) (scope 
       → Leaves result old new
   drawing_finished Written result old middle new written shows (inl is, keeps) =
       subst (λ (r : Result DrawOutcome EngineFault). Leaves r old new) (sym is)
-      (of_read _ (written.0, written.1, appends_kept old middle new written.0 written.2 keeps))
+      (written.0, written.1, appends_kept old middle new written.0 written.2 keeps)
   drawing_finished Written result old middle new written shows (inr is, keeps) =
       subst (λ (r : Result DrawOutcome EngineFault). Leaves r old new) (sym is)
-      (of_read _ (inl (written.0, inl written.1, appends_kept old middle new written.0 written.2 keeps)))
+      (inl (written.0, inl written.1, appends_kept old middle new written.0 written.2 keeps))
   drawing_finished CycleWritten result old middle new written shows (inl is, keeps) =
       subst (λ (r : Result DrawOutcome EngineFault). Leaves r old new) (sym is)
-      (of_read _ (written.0, written.1, appends_kept old middle new written.0 written.2 keeps))
+      (written.0, written.1, appends_kept old middle new written.0 written.2 keeps)
   drawing_finished CycleWritten result old middle new written shows (inr is, keeps) =
       subst (λ (r : Result DrawOutcome EngineFault). Leaves r old new) (sym is)
-      (of_read _ (inl (written.0, inr written.1, appends_kept old middle new written.0 written.2 keeps)))
+      (inl (written.0, inr written.1, appends_kept old middle new written.0 written.2 keeps))
   drawing_finished (Refused found) result old middle new written shows (inl is, keeps) =
       subst (λ (r : Result DrawOutcome EngineFault). Leaves r old new) (sym is) (kept_on old middle new written keeps)
   drawing_finished (Refused found) (Ok Written) old middle new written shows (inr is, keeps) = absurd is
@@ -68,14 +60,13 @@ module _ (document : Inquiry) (report : List ℕ) (inputs : List Source) (scope 
   drawing_finished (Refused found) (Ok NoPredicate) old middle new written shows (inr is, keeps) = absurd is
   drawing_finished (Refused found) (Ok NoEvidence) old middle new written shows (inr is, keeps) = absurd is
   drawing_finished (Refused found) (Ok (Refused notice)) old middle new written shows (inr is, keeps) = (
-    of_read (λ r. IsNoticeOf document r inputs scope notice.items)
-        (record { found = found.items; is_against = shows; is_notice = is }),
+    record { found = found.items; is_against = shows; is_notice = is },
     kept_on old middle new written keeps,
   )
   drawing_finished (Refused found) (Err fault) old middle new written shows (inr is, keeps) = absurd is
   drawing_finished NoPredicate result old middle new written shows (is, keeps) =
       subst (λ (r : Result DrawOutcome EngineFault). Leaves r old new) (sym is)
-      (of_read _ shows, kept_on old middle new written keeps)
+      (shows, kept_on old middle new written keeps)
   drawing_finished NoEvidence result old middle new written shows (is, keeps) =
       subst (λ (r : Result DrawOutcome EngineFault). Leaves r old new) (sym is)
-      (of_read _ shows, kept_on old middle new written keeps)
+      (shows, kept_on old middle new written keeps)

@@ -1,10 +1,9 @@
--- What a run that draws leaves by the bytes that were read is what it leaves by all that the files hold.
+-- A report that is drawn by what readers have left is drawn by all that their files hold.
 use Rattle.std.proofs.Common.{ℕ, List, Option, Ok, Err, inl, inr}
 use Rattle.std.specs.Prelude.{Result}
 use Rattle.std.specs.List.{AllZip}
-use Rattle.app_arguments.specs.Statuses.{File, OfDocument}
 use Rattle.def_format.specs.Documents.{Options, inquiry_of}
-use Rattle.def_judgement.specs.Writes.{IsWholeInput, Source, Whole, whole_source}
+use Rattle.def_judgement.specs.Writes.{Source, Whole}
 use Rattle.def_judgement.proofs.Writing.{writes_weaker}
 use Rattle.out_picture.specs.Scopes.{Scope}
 use Rattle.judge_draw.specs.Drawings.{IsAnyTextOf, IsCycleTextOf, IsDrawingTextOf, LacksKind, LacksPredicate}
@@ -12,10 +11,10 @@ use Rattle.judge_draw.specs.declared.drawings.DrawOutcome.{DrawOutcome}
 use Rattle.judge_draw.specs.declared.drawings.DrawOutcome.TheVariants.{Written, CycleWritten, Refused, NoPredicate, NoEvidence}
 use Rattle.judge_session.specs.declared.fault.EngineFault.{EngineFault}
 use Rattle.judge_session.specs.declared.fault.EngineFault.TheVariants.{Memory, Write, Read, BundleLong}
-use Rattle.pd_cli.specs.Drawings.{DrawLeaves, DrawReadLeaves, IsNoticeOf, OfDrawing}
-use Rattle.app_host.specs.FileSources.{IsReadOf, Knows, SameOutline}
+use Rattle.pd_cli.specs.Drawings.{DrawsDue, DrawsReport, IsNoticeOf, IsUndrawn}
+use Rattle.app_host.specs.FileSources.{Knows, SameOutline}
 use Rattle.app_host.proofs.DocumentPrefixes.{same_document, same_finding, same_session}
-use Rattle.app_host.proofs.FilesRead.{given_as_files, of_claim, of_document, up_to_weaker}
+use Rattle.app_host.proofs.FilesRead.{given_as_files, report_text_of_files, up_to_weaker}
 
 module _ (options : Options) (read document report : List ℕ) (files lefts : List Source) (scope : Scope)
     (same : SameOutline options read document) (are : AllZip Knows files lefts) where
@@ -105,56 +104,35 @@ module _ (options : Options) (read document report : List ℕ) (files lefts : Li
     is_lacking = h.is_lacking;
   }
 
-module _ (options : Options) (read document : List ℕ) (file : Source) (claimed : List ℕ) (files lefts : List Source)
-    (scope : Scope) (old new : Option (List ℕ)) (whole : IsWholeInput file claimed) (are : AllZip Knows files lefts)
-    (same : SameOutline options read document) where
-  picture_of_files : (result : Result DrawOutcome EngineFault)
-      → OfDrawing (whole_source claimed) lefts scope (inquiry_of options read) result old new
-      → OfDrawing file files scope (inquiry_of options document) result old new
-  picture_of_files (Ok Written) left =
-      of_claim file claimed _ _ whole (λ report. writes_weaker _ _ Whole old new
-      (drawing_of_files options read document report files lefts scope same are)) left
-  picture_of_files (Ok CycleWritten) left =
-      of_claim file claimed _ _ whole (λ report. writes_weaker _ _ Whole old new
-      (cycle_of_files options read document report files lefts scope same are)) left
-  picture_of_files (Ok (Refused notice)) left = (
-    of_claim file claimed _ _ whole
-        (λ report. notice_of_files options read document report files lefts scope same are notice.items) left.0,
-    left.1,
-  )
-  picture_of_files (Ok NoPredicate) left = (
-    of_claim file claimed _ _ whole
-        (λ report. lack_of_files options read document report files lefts scope same are) left.0,
-    left.1,
-  )
-  picture_of_files (Ok NoEvidence) left = (
-    of_claim file claimed _ _ whole
-        (λ report. kind_of_files options read document report files lefts scope same are) left.0,
-    left.1,
-  )
-  picture_of_files (Err Memory) left = left
-  picture_of_files (Err Read) left = left
-  picture_of_files (Err Write) left =
-      of_claim file claimed _ _ whole (λ report. up_to_weaker _ _ old new
-      (any_of_files options read document report files lefts scope same are)) left
-  picture_of_files (Err BundleLong) left = left
+module _ (options : Options) (read document report : List ℕ) (files lefts : List Source) (scope : Scope)
+    (old new : Option (List ℕ)) (same : SameOutline options read document) (are : AllZip Knows files lefts) where
+  -- a report that is drawn by what the readers have left is drawn by the files
+  pub report_of_files : (result : Result DrawOutcome EngineFault)
+      → DrawsReport report lefts scope (inquiry_of options read) result old new
+      → DrawsReport report files scope (inquiry_of options document) result old new
+  report_of_files (Ok Written) left =
+      writes_weaker _ _ Whole old new (drawing_of_files options read document report files lefts scope same are) left
+  report_of_files (Ok CycleWritten) left =
+      writes_weaker _ _ Whole old new (cycle_of_files options read document report files lefts scope same are) left
+  report_of_files (Ok (Refused notice)) left =
+      (notice_of_files options read document report files lefts scope same are notice.items left.0, left.1)
+  report_of_files (Ok NoPredicate) left =
+      (lack_of_files options read document report files lefts scope same are left.0, left.1)
+  report_of_files (Ok NoEvidence) left =
+      (kind_of_files options read document report files lefts scope same are left.0, left.1)
+  report_of_files (Err Memory) left = left
+  report_of_files (Err Read) left = left
+  report_of_files (Err Write) left =
+      up_to_weaker _ _ old new (any_of_files options read document report files lefts scope same are) left
+  report_of_files (Err BundleLong) left = left
 
-module _ (options : Options) (document : File) (read : List ℕ) (file : Source) (claimed : List ℕ)
-    (files lefts : List Source) (IsUnread : Type 0) (scope : Scope) (old new : Option (List ℕ))
-    (is : IsReadOf read document.source) (whole : IsWholeInput file claimed) (are : AllZip Knows files lefts) where
-  at : (result : Result DrawOutcome EngineFault)
-      → OfDrawing (whole_source claimed) lefts scope (inquiry_of options read) result old new
-      → OfDocument options document (λ inquiry. OfDrawing file files scope inquiry result old new)
-  at result left =
-      of_document options document read _ (λ inquiry. OfDrawing file files scope inquiry result old new) is
-      (λ bytes same. picture_of_files options read bytes file claimed files lefts scope old new whole are same result)
-      left
-
-  pub drawn_of_files : (result : Result DrawOutcome EngineFault)
-      → DrawReadLeaves (OfDrawing (whole_source claimed) lefts scope (inquiry_of options read)) result old new
-      → DrawLeaves options document IsUnread (OfDrawing file files scope) result old new
-  drawn_of_files (Ok outcome) left = at (Ok outcome) left
-  drawn_of_files (Err Memory) left = left
-  drawn_of_files (Err Read) left = absurd left
-  drawn_of_files (Err Write) left = at (Err Write) left
-  drawn_of_files (Err BundleLong) left = at (Err BundleLong) left
+  -- so is the report that is due
+  pub due_of_files : (result : Result DrawOutcome EngineFault)
+      → DrawsDue report lefts scope (inquiry_of options read) result old new
+      → DrawsDue report files scope (inquiry_of options document) result old new
+  due_of_files result (inl (undrawn, refused, keeps)) = inl (
+    report_text_of_files options read document files lefts IsUndrawn report same are undrawn,
+    refused,
+    keeps,
+  )
+  due_of_files result (inr drawn) = inr (report_of_files result drawn)

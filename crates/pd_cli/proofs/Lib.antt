@@ -2,10 +2,14 @@
 mod BundleEnds
 mod DrawingEnds
 mod DrawingsRead
+mod DueDrawn
 mod Explanations
 mod ExplorationEnds
+mod FilesChosen
+mod FilesDrawn
 mod FilesAgain
 mod NotesRead
 mod ParserEnds
 mod UnreadDrawings
+mod WholeStreams
 mod WishedNames

@@ -14,7 +14,7 @@ pub unread_drawing : (options : Options) (document : File) (IsUnread : Type 0)
     (fault : EngineFault) → IsReadFault fault → (fault ≡ Read → IsUnread)
     → DrawLeaves options document IsUnread P (Err fault) old old
 unread_drawing options document IsUnread P old Memory is unread = keeps_same old
-unread_drawing options document IsUnread P old Read is unread = (unread refl, keeps_same old)
+unread_drawing options document IsUnread P old Read is unread = inl (unread refl, keeps_same old)
 unread_drawing options document IsUnread P old Write (inl is) unread = absurd (cc)
 unread_drawing options document IsUnread P old Write (inr is) unread = absurd (cc)
 unread_drawing options document IsUnread P old BundleLong (inl is) unread = absurd (cc)

@@ -4,12 +4,13 @@ use Rattle.std.specs.Io.KnownBytes.{Keeps}
 use Rattle.clap.specs.Words.{Text}
 use Rattle.def_judgement.specs.Writes.{Source}
 use Rattle.app_arguments.specs.Arguments.{AsksFor}
-use Rattle.app_arguments.specs.Statuses.{CheckFiles, DrawFiles, Ending, Ends, ExploreFiles, Failed, File, HelpLeaves, JudgeFiles, JudgeInput, JudgementLeaves, LeavesOf, MayBeUnread, MemoryFailure, MisuseLeaves, OfConnections, OfFinding, OfNamed, Request, ServeStreams, ServiceMayFail, SessionLeaves, ShowHelp, ShowVersion, TestRuns, Unclear, UnreadClaim, VersionLeaves, sources_of}
+use Rattle.app_arguments.specs.Statuses.{CheckFiles, DrawFiles, Ending, Ends, ExploreFiles, Failed, File, HelpLeaves, InferDocument, JudgeFiles, JudgeInput, JudgementLeaves, LeavesOf, MayBeUnread, MemoryFailure, MisuseLeaves, OfConnections, OfFinding, OfNamed, Request, ServeStreams, ServiceMayFail, SessionLeaves, ShowHelp, ShowVersion, TestRuns, Unclear, UnreadClaim, VersionLeaves, sources_of}
 use Rattle.pd_cli.specs.Drawings.{EndsDrawn}
 use Rattle.pd_cli.specs.Explorations.{ExplorationLeaves}
 use Rattle.app_host.specs.Formats.{OfFormat}
 use Rattle.app_arguments.specs.Places.{Place}
 use Rattle.app_serve.specs.Kept.{WritesFiles}
+use Rattle.app_infer.specs.Inferences.{EndsInferred}
 use Rattle.app_test.specs.Tests.{TestLeaves}
 
 -- a run with this exit status came to some end, by which this is left on the output and on the errors
@@ -27,8 +28,8 @@ Leaves input files connections network_serves (JudgeFiles options fail_on format
 Leaves input files connections network_serves (CheckFiles options document report streams) =
     By (LeavesOf options (files document) (UnreadClaim files document report streams)
     (OfFinding (files report).source (sources_of (map files streams))))
-Leaves input files connections network_serves (DrawFiles options scope document report streams) =
-    EndsDrawn files options document report streams scope
+Leaves input files connections network_serves (DrawFiles options scope document others) =
+    EndsDrawn files options document others scope
 Leaves input files connections network_serves
     (ServeStreams options fail_on document place port_file watchers wait keep) =
     By (LeavesOf options (files document) (MayBeUnread (files document ∷ []) (files document ∷ []))
@@ -38,6 +39,7 @@ Leaves input files connections network_serves (ExploreFiles options fail_on page
     By (ExplorationLeaves files options fail_on page document streams)
 Leaves input files connections network_serves (TestRuns options wishes runs) =
     By (TestLeaves files options wishes runs)
+Leaves input files connections network_serves (InferDocument streams) = EndsInferred files streams
 Leaves input files connections network_serves ShowHelp = By HelpLeaves
 Leaves input files connections network_serves ShowVersion = By VersionLeaves
 Leaves input files connections network_serves Unclear = By MisuseLeaves

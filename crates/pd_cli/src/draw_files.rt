@@ -1,119 +1,136 @@
-//! Draws a report with the session in files.
-ghost use Rattle.app_arguments.specs.Statuses.{UnreadClaim, WritesUpTo, sources_of};
+//! Draws a session in files, with a report of it or by its own.
+ghost use Rattle.app_arguments.specs.Statuses.{MayBeUnread, WritesUpTo, sources_of};
 ghost use Rattle.app_arguments.specs.Views.{session_view};
-ghost use Rattle.pd_cli.specs.Drawings.{DrawLeaves, DrawReadLeaves, Finishes, OfDrawing, draw_notice, draw_status, refusal_heading};
-ghost use Rattle.def_format.specs.Limits.{report_byte_limit};
-ghost use Rattle.def_judgement.specs.Writes.{whole_source};
+ghost use Rattle.pd_cli.specs.Drawings.{AreStreams, DrawLeaves, DrawReadLeaves, OfClaimed, OfFiles, draw_notice, draw_status};
 ghost use Rattle.judge_session.specs.Inquiries.{inquiry_view};
 ghost use Rattle.pd_spec.specs.Views.{options_view};
 ghost use Rattle.out_picture.specs.Scopes.{scope_view};
-ghost use Rattle.std.specs.Prelude.{◌≡◌, ◌≤◌, ◌++◌, All, IfOk, false, length, map};
+ghost use Rattle.std.specs.Prelude.{◌≡◌, ◌<◌, ◌∷◌, [], All, IfOk, IsOkUnless, false, map, true, vec_len};
 
+use super::draw_own::draw_own;
+use super::draw_report::draw_report;
+use super::whole_files::read_whole;
 use app_arguments::SessionNames;
-use app_host::{MISUSED, REFUSED, SUCCESS, System, World, read_claim, report_fault, write_line};
-use judge_draw::{DrawOutcome, draw};
+use app_host::{
+    MISUSED, REFUSED, SUCCESS, System, World, is_out_of_memory, read_session, report_fault,
+    write_line,
+};
+use def_format::REPORT_BYTE_LIMIT;
+use def_judgement::one_document;
+use judge_draw::DrawOutcome;
 use judge_session::EngineFault;
 use out_picture::DrawOptions;
-use pd_engine::{ByteSource, Inquiry};
-use std::alloc::{AllocError, Global};
+use pd_engine::{ByteSource, Inquiry, Report};
+use pd_spec::Spec;
+use std::alloc::Global;
 use std::io::Write;
 
-/// What is reported of a check's finding that stands against the picture: a line, and the text of what it finds.
-fn notice(alloc: Global, found: &[u8]) -> Result<Vec<u8>, AllocError>
-    ensures { IfOk result (λ notice. notice.items ≡ refusal_heading ++ found.now) }
-{
-    let mut notice = Vec::from_slice(alloc, b"monitor: no picture, for a check finds:\n")?;
-    notice.extend_from_slice(found)?;
-    Ok(notice)
-}
-
-/// Flushes the output after a picture, and makes what is reported of a finding.
-fn finish<O: Write>(
+/// Whether this many files beside a document are streams alone: as many as it has processes are, and so is one.
+///
+/// # Errors
+/// `Memory`.
+fn are_streams(
     alloc: Global,
-    drawing: DrawOutcome,
-    output: &mut O,
-) -> Result<DrawOutcome, EngineFault>
-    ensures { Finishes drawing result (O.contents output.old) (O.contents output.new) }
+    inquiry: Inquiry<'_, '_, '_>,
+    count: usize,
+) -> Result<bool, EngineFault>
+    ensures yes { IfOk result (λ are. are ≡ true → AreStreams (inquiry_view inquiry.entry) count) }
+    ensures no { IfOk result (λ are. are ≡ false → ¬ AreStreams (inquiry_view inquiry.entry) count) }
+    ensures err { IsOkUnless result EngineFault.Memory }
 {
-    match drawing {
-        DrawOutcome::Written => {
-            if output.flush().is_err() {
-                return Err(EngineFault::Write);
+    one_document();
+    if count <= 1 {
+        return Ok(true);
+    }
+    match Spec::read_with_options(alloc, inquiry.document, inquiry.options) {
+        Ok(spec) => Ok(spec.names().processes() == count),
+        Err(fault) => {
+            if is_out_of_memory(&fault) {
+                return Err(EngineFault::Memory);
             }
-            Ok(DrawOutcome::Written)
+            Ok(false)
         }
-        DrawOutcome::CycleWritten => {
-            if output.flush().is_err() {
-                return Err(EngineFault::Write);
-            }
-            Ok(DrawOutcome::CycleWritten)
-        }
-        DrawOutcome::Refused(found) => Ok(DrawOutcome::Refused(notice(alloc, &found)?)),
-        DrawOutcome::NoPredicate => Ok(DrawOutcome::NoPredicate),
-        DrawOutcome::NoEvidence => Ok(DrawOutcome::NoEvidence),
     }
 }
 
-/// Draws a report by its bytes, a document, with what is asked, and the streams, writes the picture, and flushes the
-/// output.
+/// Reads the report in the first of these files, draws it with a document, with what is asked, and the other files, the
+/// streams, writes the picture, and flushes the output.
 ///
 /// # Errors
-/// `Memory` leaves nothing written. `Write` leaves a part of the picture written, or all of it if only the flush
-/// failed.
-fn draw_read<Y: System, R: ByteSource + Send + Drop, O: Write>(
+/// `Read`, if the report can't be read or has more than `REPORT_BYTE_LIMIT` bytes, and `Memory` leave nothing written.
+/// `Write` leaves a part of the picture written, or all of it if only the flush failed.
+fn draw_claim<Y: System, R: ByteSource + Send + Drop, O: Write>(
     world: &World<'_, Y>,
     inquiry: Inquiry<'_, '_, '_>,
-    report: &[u8],
-    streams: Vec<R>,
+    files: Vec<R>,
     scope: &DrawOptions<'_>,
     output: &mut O,
 ) -> Result<DrawOutcome, EngineFault>
-    requires open { All (λ stream. R.has_ended stream ≡ false) streams.items }
-    requires short { length report.now ≤ report_byte_limit }
-    ensures { DrawReadLeaves (OfDrawing (whole_source report.now) (map R.left streams.items) (scope_view scope.now)
+    requires some { 0 < vec_len files }
+    requires open { All (λ file. R.has_ended file ≡ false) files.items }
+    ensures { DrawReadLeaves (OfClaimed (map R.left files.items) (scope_view scope.now)
         (inquiry_view inquiry.entry)) result (O.contents output.old) (O.contents output.new) }
 {
-    let drawing = draw(
-        world.rt,
-        world.alloc,
-        inquiry,
-        report,
-        streams,
-        scope,
-        output,
-    )?;
-    finish(world.alloc, drawing, output)
+    let mut streams = files;
+    let report = streams.remove(0);
+    let report = read_whole(world.alloc, report, REPORT_BYTE_LIMIT)?;
+    draw_report(world, inquiry, &report, streams, scope, output)
 }
 
-/// Opens the files of a picture, the document, the report and then the streams, reads the document and the report,
-/// draws the report with the document and the streams, writes the picture, and flushes the output. All files are opened
-/// before one is read.
+/// Draws a document, with what is asked, and these files: the report that is due, if they are streams alone, and else
+/// the report in the first of them. It writes the picture, and flushes the output. The report that is due is put into
+/// `due` once it is there.
 ///
 /// # Errors
-/// `Read`, if a file can't be opened, or the document or the report can't be read, or the report has more than
-/// `REPORT_BYTE_LIMIT` bytes, and `Memory` leave nothing written. `Write` leaves a part of the picture written, or all
+/// As `draw_own` and `draw_claim`.
+fn draw_session<Y: System, R: ByteSource + Send + Drop, O: Write>(
+    world: &World<'_, Y>,
+    inquiry: Inquiry<'_, '_, '_>,
+    files: Vec<R>,
+    scope: &DrawOptions<'_>,
+    due: &mut Option<Report>,
+    output: &mut O,
+) -> Result<DrawOutcome, EngineFault>
+    requires { All (λ file. R.has_ended file ≡ false) files.items }
+    ensures { DrawReadLeaves (OfFiles (map R.left files.items) (scope_view scope.now) (inquiry_view inquiry.entry))
+        result (O.contents output.old) (O.contents output.new) }
+{
+    if are_streams(world.alloc, inquiry, files.len())? {
+        return draw_own(world, inquiry, files, scope, due, output);
+    }
+    draw_claim(world, inquiry, files, scope, output)
+}
+
+/// Opens the files of a picture, the document and then the others, reads the document, draws it, with what is asked,
+/// and the other files, writes the picture, and flushes the output. All files are opened before one is read. The report
+/// that is due is put into `due` if it is drawn.
+///
+/// # Errors
+/// `Read`, if a file can't be opened, or the document or, of the others, a report or a stream without a report can't be
+/// read or has too many bytes, and `Memory` leave nothing written. `Write` leaves a part of the picture written, or all
 /// of it if only the flush failed.
 pub(crate) fn draw_files<Y: System, O: Write>(
     world: &World<'_, Y>,
-    report: &str,
     scope: &DrawOptions<'_>,
     names: &SessionNames<'_>,
+    due: &mut Option<Report>,
     output: &mut O,
 ) -> Result<DrawOutcome, EngineFault>
     ensures { DrawLeaves (options_view names.now.options) (Y.Files.file_of world.now.files.now names.now.spec.now)
-        (UnreadClaim (Y.Files.file_of world.now.files.now) names.now.spec.now report.now (session_view names.now).1)
-        (OfDrawing (Y.Files.file_of world.now.files.now report.now).source
-        (sources_of (map (Y.Files.file_of world.now.files.now) (session_view names.now).1)) (scope_view scope.now))
-        result (O.contents output.old) (O.contents output.new) }
+        (MayBeUnread (Y.Files.file_of world.now.files.now names.now.spec.now
+        ∷ map (Y.Files.file_of world.now.files.now) (session_view names.now).1)
+        (Y.Files.file_of world.now.files.now names.now.spec.now ∷ []))
+        (OfFiles (sources_of (map (Y.Files.file_of world.now.files.now) (session_view names.now).1))
+        (scope_view scope.now)) result (O.contents output.old) (O.contents output.new) }
 {
-    match read_claim(world, report, names) {
+    match read_session(world, names) {
         Ok(read) => {
-            let streams = read.streams;
+            let files = read.streams;
             let inquiry = Inquiry {
                 document: &read.document,
                 options: &names.options,
             };
-            draw_read(world, inquiry, &read.report, streams, scope, output)
+            draw_session(world, inquiry, files, scope, due, output)
         }
         Err(fault) => Err(fault),
     }

@@ -5,17 +5,21 @@
 //! 0, refused at 1. Further arguments go to the command line's parser (`app_arguments`). `judge` with the names of
 //! files does the same with a session document and streams that stand in files. `check` with the names of files checks
 //! a report's evidence: at status 0 nothing that it found is bad, and at 1 something is. `draw` with the names of files
-//! draws a report: at status 0 the picture is written, and at 1 something that a check finds stands against it. `serve`
-//! with a port judges streams that come by connections to that port. `explore` with the names of files judges as
-//! `judge` does: at status 0 the page is written on which the run is explored, and at 1 the page of a refusal. Whatever
-//! fails is reported in one line on the errors, after an explanation if one is wanted. What each status says stands in
-//! `specs/Drawings.antt` for `draw`, in `specs/Explorations.antt` for `explore`, and for the others in
-//! `app_arguments/specs/Statuses.antt`.
+//! draws a report, or without one the report that is due: at status 0 the picture is written, and at 1 something that a
+//! check finds stands against it, or the session is refused. `infer` with the names of streams writes their first
+//! document: at status 0 it is written, and at 1 a stream is refused. `serve` with a port judges streams that come by
+//! connections to that port. `explore` with the names of files judges as `judge` does: at status 0 the page is written
+//! on which the run is explored, and at 1 the page of a refusal. Whatever fails is reported in one line on the errors,
+//! after an explanation if one is wanted. What each status says stands in `specs/Drawings.antt` for `draw`, in
+//! `specs/Explorations.antt` for `explore`, and for the others in `app_arguments/specs/Statuses.antt`.
 //!
 //! - `program`: one run of the program, from its arguments to its exit status
 //! - `parser_error`: reports what the command line's parser has to say
 //! - `bundle`: judges the bundle on the input
-//! - `draw_files`: draws a report with the session in files
+//! - `draw_report`: draws a report that has been read
+//! - `whole_files`: reads files whole, up to a limit
+//! - `draw_own`: draws a session by the report that is due
+//! - `draw_files`: draws the session in files, with a report of it or by its own
 //! - `wished`: looks up the predicates that conditions and wishes name
 //! - `page_extras`: what a page has beside its session, by what is asked for
 //! - `explore_files`: explores the session in files
@@ -25,12 +29,15 @@
 
 mod bundle;
 mod draw_files;
+mod draw_own;
+mod draw_report;
 mod explaining;
 mod explanation;
 mod explore_files;
 mod page_extras;
 mod parser_error;
 mod program;
+mod whole_files;
 mod wished;
 
 pub use app_arguments::Place;

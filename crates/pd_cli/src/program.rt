@@ -10,6 +10,7 @@ ghost use Rattle.app_arguments.specs.ConditionViews.{fail_on_view};
 ghost use Rattle.app_arguments.specs.Statuses.{Ends, JudgementLeaves, LeavesOf, MayBeUnread, OfConnections, OfFinding, OfNamed, ServiceMayFail, SessionLeaves, UnreadClaim, sources_of};
 ghost use Rattle.app_arguments.specs.Views.{format_view, names_view, page_view, session_view};
 ghost use Rattle.app_host.specs.Formats.{OfFormat};
+ghost use Rattle.app_infer.specs.Inferences.{EndsInferred};
 ghost use Rattle.app_test.specs.Tests.{TestLeaves};
 ghost use Rattle.judge_runs.specs.Views.{wishes_view};
 ghost use Rattle.def_judgement.specs.Writes.{WritesTruthOfBundle};
@@ -27,6 +28,7 @@ use app_host::{
     FileSource, LevelGate, Network, NotedSource, Notes, System, World, check_files, judge_files,
     report_bundle, report_end, report_judgement,
 };
+use app_infer::{infer_files, infer_text, report_infer};
 use app_serve::{Host, Peers, report_service_end, serve, service_text};
 use app_test::{report_test, test_runs, test_text};
 use out_picture::DrawOptions;
@@ -59,21 +61,21 @@ fn run_check<Y: System, O: Write, E: Write>(
     report_end(&end, errors)
 }
 
-/// Draws the report in the file of this name with files, and gives the exit status.
+/// Draws the session in files, with the report that may be among them, and gives the exit status.
 fn run_draw<Y: System, O: Write, E: Write>(
     world: &World<'_, Y>,
-    report: &str,
     scope: &DrawOptions<'_>,
     names: &SessionNames<'_>,
     output: &mut O,
     errors: &mut E,
 ) -> u8
     ensures { Explained world.now.explain (λ start. EndsDrawn (Y.Files.file_of world.now.files.now) (options_view
-        names.now.options) names.now.spec.now report.now (session_view names.now).1 (scope_view scope.now) result
+        names.now.options) names.now.spec.now (session_view names.now).1 (scope_view scope.now) result
         (O.contents output.old) (O.contents output.new) start (E.contents errors.new)) (E.contents errors.old) }
 {
-    let end = draw_files(world, report, scope, names, output);
-    let text = drawing_text(world, report, scope, names, &end);
+    let mut due = None;
+    let end = draw_files(world, scope, names, &mut due, output);
+    let text = drawing_text(world, due.as_ref(), scope, names, &end);
     write_explanation(world.explain, &text, errors);
     report_drawing(&end, errors)
 }
@@ -187,6 +189,23 @@ fn run_test<Y: System, O: Write, E: Write>(
     report_test(&end, errors)
 }
 
+/// Writes the first document of the streams in files, and gives the exit status.
+fn run_infer<Y: System, O: Write, E: Write>(
+    world: &World<'_, Y>,
+    streams: &[&str],
+    output: &mut O,
+    errors: &mut E,
+) -> u8
+    ensures { Explained world.now.explain (λ start. EndsInferred (Y.Files.file_of world.now.files.now)
+        (names_view streams.now) result (O.contents output.old) (O.contents output.new) start
+        (E.contents errors.new)) (E.contents errors.old) }
+{
+    let end = infer_files(world, streams, output);
+    let text = infer_text(world, streams, &end);
+    write_explanation(world.explain, &text, errors);
+    report_infer(&end, errors)
+}
+
 /// Judges the bundle on the input, and gives the exit status.
 fn run_bundle<Y: System, I: ByteSource + Drop, O: Write, E: Write>(
     world: &World<'_, Y>,
@@ -226,14 +245,13 @@ fn run_arguments<Y: System, I: ByteSource + Drop, O: Write, E: Write>(
             run_files(world, &judgement, format, output, errors)
         }
         Ok(Request::Check(report, names)) => { run_check(world, report, &names, output, errors) }
-        Ok(Request::Draw(report, scope, names)) => {
-            run_draw(world, report, &scope, &names, output, errors)
-        }
+        Ok(Request::Draw(scope, names)) => run_draw(world, &scope, &names, output, errors),
         Ok(Request::Serve(service)) => { run_service(world, &service, output, errors) }
         Ok(Request::Explore(judgement, page)) => {
             run_explore(world, &judgement, &page, output, errors)
         }
         Ok(Request::Test(test)) => { run_test(world, &test, output, errors) }
+        Ok(Request::Infer(streams)) => run_infer(world, &streams, output, errors),
         Err(error) => report_parser_error(&error, output, errors),
     }
 }
@@ -251,14 +269,15 @@ fn without_first(arguments: &[String]) -> &[String]
 /// With no further argument a bundle is read from `input`, and its report is written to `output`. Further arguments are
 /// parsed: `judge`, with the names of the files of a session document and one stream or more, judges these and writes
 /// their report to `output`; `check`, with the names of the files of a session document, a report and one stream or
-/// more, checks that report and writes what is found to `output`; `draw`, with the same names, draws that report and
-/// writes the picture to `output`; `serve`, with the name of a session document's file and a place, judges streams that
-/// come by connections; `explore`, with the names of `judge`, judges these and writes the page on which their run is
-/// explored, or the page of a refusal, to `output`; these three answer predicates beyond the width where they are
-/// decided, and fail on answers, if that is asked for; `test`, with the names of folders with recorded runs, judges
-/// each and writes to `output` which of them are not as wished; the help that they ask for is written to `output`, and
-/// what is wrong with them to `errors`. `errors` also has one line for each fault, and before it an explanation if one
-/// is wanted, as `explain` says; what of it can't be written is left off.
+/// more, checks that report and writes what is found to `output`; `draw`, with the same names, draws that report, and
+/// without a report the one that is due, and writes the picture to `output`; `serve`, with the name of a session
+/// document's file and a place, judges streams that come by connections; `explore`, with the names of `judge`, judges
+/// these and writes the page on which their run is explored, or the page of a refusal, to `output`; these three answer
+/// predicates beyond the width where they are decided, and fail on answers, if that is asked for; `test`, with the
+/// names of folders with recorded runs, judges each and writes to `output` which of them are not as wished; `infer`,
+/// with the names of streams, writes their first document to `output`; the help that they ask for is written to
+/// `output`, and what is wrong with them to `errors`. `errors` also has one line for each fault, and before it an
+/// explanation if one is wanted, as `explain` says; what of it can't be written is left off.
 pub fn run<
     S: RandomSource + Threads + Wait + Sync,
     F: FileSource,

@@ -3,12 +3,12 @@ use Rattle.std.proofs.Common.{map}
 use Rattle.judge_session.specs.Inquiries.{inquiry_view}
 use Rattle.out_picture.specs.Scopes.{scope_view}
 use Rattle.pd_cli.proofs.DrawingEnds.{drawing_finished}
-use Rattle.pd_cli.proofs.draw_files.draw_read.Goals as goal
+use Rattle.pd_cli.proofs.draw_report.draw_report.Goals as goal
 
-pub returns : goal.returns
-returns g c =
+pub returns-clause-left : goal.returns-clause-left
+returns-clause-left g c =
     drawing_finished (inquiry_view c.args.inquiry) c.args.report.now (map g.R.ByteSource.left c.args.streams.items)
-    (scope_view c.args.scope.now) c.requires.short c.in_ok-drawing.drawing c.finish.result
+    (scope_view c.args.scope.now) c.in_ok-drawing.drawing c.finish.result
     (g.O.Write.contents c.args.output.now) (g.O.Write.contents c.draw.new.writer)
     (g.O.Write.contents c.finish.new.output) c.in_ok-drawing.ensures.written c.in_ok-drawing.ensures.shown
     c.finish.ensures

@@ -1,0 +1,93 @@
+//! The line that says why there is no document.
+ghost use Rattle.app_infer.specs.Inferences.{many_line, no_stream_line, refused_line, same_line, place_words, wrong_words};
+ghost use Rattle.judge_infer.specs.Views.{stream_fault_view, wrong_view};
+ghost use Rattle.std.specs.Prelude.{◌≡◌, ◌++◌, IfOk, OnOk, codes};
+
+use judge_infer::{StreamFault, Wrong};
+use pd_report::{push_bytes, push_number};
+use std::alloc::{AllocError, Global};
+
+/// What is wrong with a stream, in words.
+pub(crate) fn wrong_words(wrong: Wrong) -> &'static str
+    ensures { result.now ≡ wrong_words (wrong_view wrong) }
+{
+    match wrong {
+        Wrong::StreamTooLong => "it has more than 16,777,216 bytes",
+        Wrong::NoLine => "it has no line that says whose stream it is",
+        Wrong::LineTooLong => "the line has more than 65,536 bytes",
+        Wrong::Json => "it isn't JSON, and isn't the last line",
+        Wrong::Shape => "it is no record of a stream",
+        Wrong::NoJoin => "the stream doesn't begin with its process",
+        Wrong::SecondJoin => "a second run begins here",
+        Wrong::ProcessName => "no process of a document can have this name",
+        Wrong::Events => "the process has more than 10,000 events",
+        Wrong::Value => "a value is no whole number of 64 bits",
+        Wrong::MessageId => "the id of a message has 1 to 64 bytes",
+        Wrong::VarName => "no variable of a document can have this name",
+        Wrong::Vars => "the process has more than 16 variables",
+    }
+}
+
+/// Appends the number of a line, if a line is at fault.
+fn push_line_number(out: &mut Vec<u8>, line: Option<u64>) -> Result<(), AllocError>
+    ensures { OnOk result (out.new.items ≡ out.old.items ++ place_words line) }
+{
+    if let Some(line) = line {
+        push_bytes(out, b" line ")?;
+        push_number(out, line)?;
+    }
+    Ok(())
+}
+
+/// The beginning of the line, with the name of the file.
+fn begin_line(alloc: Global, name: &str) -> Result<Vec<u8>, AllocError>
+    ensures { IfOk result (λ line. line.items ≡ codes "monitor: no document: " ++ name.now) }
+{
+    let mut out = Vec::from_slice(alloc, b"monitor: no document: ")?;
+    push_bytes(&mut out, name.as_bytes())?;
+    Ok(out)
+}
+
+/// The line of a stream that is refused.
+pub(crate) fn refused_line(
+    alloc: Global,
+    name: &str,
+    fault: StreamFault,
+) -> Result<Vec<u8>, AllocError>
+    ensures { IfOk result (λ line. line.items ≡ refused_line name.now (stream_fault_view fault)) }
+{
+    let mut out = begin_line(alloc, name)?;
+    push_line_number(&mut out, fault.line)?;
+    push_bytes(&mut out, b": ")?;
+    push_bytes(&mut out, wrong_words(fault.wrong).as_bytes())?;
+    push_bytes(&mut out, b"\n")?;
+    Ok(out)
+}
+
+/// The line of two streams of one process.
+pub(crate) fn same_line(alloc: Global, first: &str, second: &str) -> Result<Vec<u8>, AllocError>
+    ensures { IfOk result (λ line. line.items ≡ same_line first.now second.now) }
+{
+    let mut out = begin_line(alloc, second)?;
+    push_bytes(&mut out, b": it is of the same process as ")?;
+    push_bytes(&mut out, first.as_bytes())?;
+    push_bytes(&mut out, b"\n")?;
+    Ok(out)
+}
+
+/// The line of streams of which there are too many.
+pub(crate) fn many_line(alloc: Global) -> Result<Vec<u8>, AllocError>
+    ensures { IfOk result (λ line. line.items ≡ many_line) }
+{
+    Vec::from_slice(
+        alloc,
+        b"monitor: no document: there are more than 16 streams\n",
+    )
+}
+
+/// The line of no stream.
+pub(crate) fn no_stream_line(alloc: Global) -> Result<Vec<u8>, AllocError>
+    ensures { IfOk result (λ line. line.items ≡ no_stream_line) }
+{
+    Vec::from_slice(alloc, b"monitor: no document: there is no stream\n")
+}

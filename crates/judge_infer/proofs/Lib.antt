@@ -1,0 +1,7 @@
+-- The modules of lemmas of this crate.
+mod FieldViews
+mod LineSteps
+mod Parts
+mod SameSteps
+mod StatementFacts
+mod VarSteps
