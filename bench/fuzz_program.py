@@ -21,6 +21,8 @@ CHECKED = re.compile(rb"report line \d+\n|refused (?:good|bad)\n|session (?:good
                      rb"|(?:(%s) possibly (?:good|bad|unchecked)\n\1 definitely (?:good|bad|unchecked)\n)+)" % NAME)
 BAD = re.compile(rb"\bbad$|^report line ", re.M)
 AGAINST = b"monitor: no picture, for a check finds:\n"
+# Of a document with as many processes as there are files the first file, a report, is taken for a stream.
+UNDRAWN = b"monitor: no picture, for the session is refused:\n"
 # What a terminal may be given: printable characters and line feeds.
 PLAIN = re.compile(r"[^\x00-\x09\x0b-\x1f\x7f-\x9f]*")
 
@@ -149,8 +151,10 @@ class Draw(Target):
     def is_right(self, trial, status, output, errors):
         if status == 0:
             return not errors and is_picture(output)
-        return not output and (status == 1 and errors.startswith(AGAINST) and CHECKED.fullmatch(errors[len(AGAINST):])
-                               or status == 2 and errors.startswith(b"monitor: "))
+        if status == 1:
+            return not output and any(errors.startswith(heading) and form.fullmatch(errors[len(heading):])
+                                      for heading, form in ((AGAINST, CHECKED), (UNDRAWN, REFUSED)))
+        return not output and status == 2 and errors.startswith(b"monitor: ")
 
 
 def is_picture(text):
