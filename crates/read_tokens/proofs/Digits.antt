@@ -7,7 +7,7 @@ use Rattle.std.specs.Str.Parse.{AllDigits}
 use Rattle.json.specs.Lex.{Class, quote, backslash, operator, space, other, class}
 
 -- a fact of each number below n, by computation
-abbrev each_below : (ℕ → Bool) → ℕ → Bool
+abbrev pub each_below : (ℕ → Bool) → ℕ → Bool
 each_below p zero = true
 each_below p (suc n) = p n && each_below p n
 
@@ -17,7 +17,7 @@ below_next p n i here rest lt (inl e) = rw e here
 below_next p n i here rest lt (inr (inl l)) = rest l
 below_next p n i here rest lt (inr (inr g)) = absurd (omega arith)
 
-below : (p : ℕ → Bool) (n : ℕ) → each_below p n ≡ true → (i : ℕ) → i < n → p i ≡ true
+pub below : (p : ℕ → Bool) (n : ℕ) → each_below p n ≡ true → (i : ℕ) → i < n → p i ≡ true
 below p zero h i lt = absurd (omega arith)
 below p (suc n) h i lt =
     let both = and_parts (p n) (each_below p n) h in

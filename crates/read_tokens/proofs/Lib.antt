@@ -2,3 +2,4 @@ mod Lexing
 mod Digits
 mod Numbers
 mod Steps
+mod Words

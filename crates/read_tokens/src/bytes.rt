@@ -1,7 +1,9 @@
 //! What stands at the start of some bytes.
-ghost use Rattle.std.specs.Prelude.{◌≡◌, ◌<◌, ◌≤◌, ◌∷◌, All, IfSome, IsTrue, length, take};
+ghost use Rattle.std.specs.Prelude.{ℕ, ◌+◌, ◌≡◌, ◌<◌, ◌≤◌, ◌∷◌, All, IfSome, IsTrue, length, take};
+ghost use Rattle.core.specs.Slice.Scan.{digits_from, flag_word, little_endian};
 ghost use Rattle.json.specs.Lex.{between, lex};
 ghost use Rattle.read_tokens.specs.Runs.{EndsValue, IsNumber, IsPlain, IsQuoted, IsWhole};
+ghost use Rattle.read_tokens.specs.Words.{is_special};
 
 /// What follows this byte, if it comes first.
 #[inline(always)]
@@ -68,13 +70,56 @@ fn is_plain(byte: u8) -> bool
     byte >= b' ' && byte != b'"' && byte != b'\\'
 }
 
+/// The highest bit of each byte of a word.
+const HIGH_BITS: u64 = 0x8080_8080_8080_8080;
+
+/// The other bits.
+const LOW_BITS: u64 = 0x7f7f_7f7f_7f7f_7f7f;
+
+/// The 8 bytes from a place on as one number, the first of them lowest.
+#[inline(always)]
+fn word_at(bytes: &[u8], at: usize) -> u64
+    requires { at + 8 ≤ length bytes.now }
+    ensures { result ≡ little_endian bytes.now at }
+{
+    u64::from_le_bytes([
+        bytes[at],
+        bytes[at + 1],
+        bytes[at + 2],
+        bytes[at + 3],
+        bytes[at + 4],
+        bytes[at + 5],
+        bytes[at + 6],
+        bytes[at + 7],
+    ])
+}
+
+/// The highest bit of each byte of a word that doesn't stand for itself. No sum carries into the next byte.
+#[inline(always)]
+fn special_marks(word: u64) -> u64
+    ensures { (byte : ℕ → ℕ) → ((k : ℕ) → byte k < 256) → word ≡ digits_from byte 0 8
+        → result ≡ flag_word (λ k. is_special (byte k)) }
+{
+    let no_quote = ((word ^ 0x2222_2222_2222_2222) & LOW_BITS) + LOW_BITS;
+    let no_backslash = ((word ^ 0x5c5c_5c5c_5c5c_5c5c) & LOW_BITS) + LOW_BITS;
+    let no_control = (word & LOW_BITS) + 0x6060_6060_6060_6060;
+    ((no_quote & no_backslash & no_control | word) & HIGH_BITS) ^ HIGH_BITS
+}
+
 /// How many bytes stand for themselves before the first one that doesn't.
 #[inline(never)]
 fn plain_bytes(bytes: &[u8]) -> usize
     ensures within { result ≤ length bytes.now }
     ensures plain { All IsPlain (take result bytes.now) }
 {
-    let mut count = 0;
+    let mut count = 0usize;
+    'words: while bytes.len() - count >= 8 {
+        let marks = special_marks(word_at(bytes, count));
+        if marks != 0 {
+            return count + marks.trailing_zeros() as usize / 8;
+        }
+        count += 8;
+    }
     'bytes: while count < bytes.len() && is_plain(bytes[count]) {
         count += 1;
     }
