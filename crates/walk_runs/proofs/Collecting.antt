@@ -1,10 +1,10 @@
 -- What stands in the lists of births.
-use Rattle.std.proofs.Common.{◌≡◌, ℕ, zero, suc, ◌+◌, ◌<◌, ◌≤◌, List, [], ◌∷◌, ◌++◌, length, get_or, map, take, slice_set, Contains, IsPermutation, Vec, sym, ap, ◌∙◌, subst, inl, inr, ◌⊎◌, arith}
+use Rattle.std.proofs.Common.{◌≡◌, ℕ, zero, suc, ◌+◌, ◌<◌, ◌≤◌, List, [], ◌∷◌, ◌++◌, length, get_or, map, take, slice_set, insert, Contains, IsPermutation, Vec, refl, sym, ap, ◌∙◌, subst, inl, inr, ◌⊎◌, arith}
 use Rattle.std.specs.Global.{Global}
 use Rattle.std.specs.List.Sorted.{IsNonDecreasingBy}
 use Rattle.std.proofs.lemmas.List.{append-nil, append_assoc, get_or-map, length-map, map-append, take_all}
 use Rattle.std.proofs.lemmas.List.Elements.{Contains-append_left, Contains-append_right, Contains-append_cases, Contains-push, Contains-push_cases}
-use Rattle.std.proofs.lemmas.List.Sorted.{Contains-permutation, IsPermutation-map, IsPermutation-sym}
+use Rattle.std.proofs.lemmas.List.Sorted.{Contains-permutation, IsPermutation-insert, IsPermutation-map, IsPermutation-sym}
 use Rattle.walk_runs.specs.Collected.{births_in, HasOneMore, IsSortedOf}
 use Rattle.walk_runs.specs.Kept.{KeyedBirth, birth_view, births_view, cuts_of}
 use Rattle.walk_runs.specs.declared.kept_birth.KeptBirth.{KeptBirth}
@@ -58,7 +58,7 @@ one_list old list rest cut e = record {
     just z (inr has) = inl (Contains-append_right old rest z has)
 
 -- the same with a list before them
-one_later : (first old new : List KeyedBirth) (cut : KeyedBirth) → HasOneMore old cut new
+pub one_later : (first old new : List KeyedBirth) (cut : KeyedBirth) → HasOneMore old cut new
     → HasOneMore (first ++ old) cut (first ++ new)
 one_later first old new cut more = record {
   kept = λ z has. kept z (Contains-append_cases first old z has);
@@ -128,3 +128,44 @@ sorted_of {A} number all sorted same rises = record {
         at (x ∷ xs) j x (omega arith) in
         let both : number (get_or (x ∷ xs) i x).cut ≤ number (get_or (x ∷ xs) j x).cut = up i j x le (omega arith) in
         omega arith
+
+-- a birth is put among the few
+pub few_more : {A : Type 0} (view : A → KeyedBirth) (few : List A) (at : ℕ) (birth : A) (rest : List KeyedBirth)
+    → HasOneMore (map view few ++ rest) (view birth) (map view (insert few at birth) ++ rest)
+few_more {A} view few at birth rest = record {
+  kept = λ z has. kept z (Contains-append_cases (map view few) rest z has);
+  here = among (view birth) (there (view birth) (0, omega arith, refl));
+  just = λ z has. just z (Contains-append_cases (map view (insert few at birth)) rest z has);
+}
+  where
+    same : IsPermutation (view birth ∷ map view few) (map view (insert few at birth))
+    same = IsPermutation-map view (birth ∷ few) (insert few at birth) (IsPermutation-insert few at birth)
+
+    there : (z : KeyedBirth) → Contains (view birth ∷ map view few) z → Contains (map view (insert few at birth)) z
+    there z has =
+        Contains-permutation (view birth ∷ map view few) (map view (insert few at birth)) z same has
+
+    back : (z : KeyedBirth) → Contains (map view (insert few at birth)) z → Contains (view birth ∷ map view few) z
+    back z has =
+        Contains-permutation (map view (insert few at birth)) (view birth ∷ map view few) z
+        (IsPermutation-sym (view birth ∷ map view few) (map view (insert few at birth)) same) has
+
+    among : (z : KeyedBirth) → Contains (map view (insert few at birth)) z
+        → Contains (map view (insert few at birth) ++ rest) z
+    among z has = Contains-append_left (map view (insert few at birth)) rest z has
+
+    kept : (z : KeyedBirth) → Contains (map view few) z ⊎ Contains rest z
+        → Contains (map view (insert few at birth) ++ rest) z
+    kept z (inl has) = among z (there z (Contains-append_right (view birth ∷ []) (map view few) z has))
+    kept z (inr has) = Contains-append_right (map view (insert few at birth)) rest z has
+
+    one : (z : KeyedBirth) → Contains (view birth ∷ []) z ⊎ Contains (map view few) z
+        → Contains (map view few ++ rest) z ⊎ (view birth ≡ z)
+    one z (inl (zero, lt, is)) = inr is
+    one z (inl (suc k, lt, is)) = absurd (omega arith)
+    one z (inr has) = inl (Contains-append_left (map view few) rest z has)
+
+    just : (z : KeyedBirth) → Contains (map view (insert few at birth)) z ⊎ Contains rest z
+        → Contains (map view few ++ rest) z ⊎ (view birth ≡ z)
+    just z (inl has) = one z (Contains-append_cases (view birth ∷ []) (map view few) z (back z has))
+    just z (inr has) = inl (Contains-append_right (map view few) rest z has)

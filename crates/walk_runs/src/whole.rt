@@ -113,7 +113,7 @@ fn next_level<K: Key>(
     steps.limits();
     let others = steps.prefix();
     let mut runs = Vec::with_capacity(alloc, olds.len().saturating_add(births.len()))?;
-    let mut born = Births::new(alloc, others)?;
+    let mut born = Births::new(alloc, others);
     let mut last = None;
     let mut i = 0;
     for j in 0..births.len() {
@@ -131,7 +131,7 @@ fn next_level<K: Key>(
         push_moved(steps, &olds[i], hint(i), &mut runs, &mut born)?;
         i += 1;
     }
-    let born = born.sorted(alloc)?;
+    let born = born.sorted()?;
     Ok(Whole {
         processes: others + 2,
         number: number + 1,
@@ -154,7 +154,7 @@ impl<K: Key> Whole<K> {
         steps.limits();
         let others = steps.prefix();
         let mut runs = Vec::with_capacity(alloc, 1)?;
-        let mut born = Births::new(alloc, others)?;
+        let mut born = Births::new(alloc, others);
         runs.push(KeptRun {
             key: K::none(),
             lo: 0,
@@ -168,7 +168,7 @@ impl<K: Key> Whole<K> {
             y: 0,
         };
         add_births(steps, &empty, None, 0, &mut born)?;
-        let born = born.sorted(alloc)?;
+        let born = born.sorted()?;
         Ok(Whole {
             processes: others + 2,
             number: 0,

@@ -78,7 +78,7 @@ loop-j-init g c =
     (births_view number c.args.births.now) c.limits.ensures.short
     c.limits.ensures.walkable c.requires.kept c.requires.level in
     subst (λ (born : List KeyedBirth). IsMerging c.args.steps.now c.args.number c.args.olds.now births 0 0
-    c.in_ok-runs.runs.items born 0) (sym c.in_ok-born.ensures)
+    c.in_ok-runs.runs.items born 0) (sym c.new-born.ensures)
     (subst (λ (runs : List KeyedRun). IsMerging c.args.steps.now c.args.number c.args.olds.now births 0 0 runs [] 0)
     (sym c.in_ok-runs.ensures.items) (merging_start g.K.Key.room c.args.steps.now c.args.number c.args.olds.now births
     given))
@@ -315,15 +315,15 @@ invariant_of-result g c =
     (births_size number c.args.births.now) in
     let e : length c.args.steps.now ≡ c.prefix-others.result + 2 =
     omega (arith, c.prefix-others.ensures, c.limits.ensures.two) in
-    let born : List KeyedBirth = births_view number c.in_ok-born-2.born.items in
+    let born : List KeyedBirth = births_view number c.in_ok-born.born.items in
     let counted : c.cuts_in.result ≡ cut_count (runs_view (c.prefix-others.result + 2 - 2) c.loop-i.runs.items) =
     c.cuts_in.ensures (c.prefix-others.result + 2 - 2)
     ∙ ap (λ (rs : List KeyedRun). cut_count (runs_view (c.prefix-others.result + 2 - 2) rs)) c.deref.ensures.value in
     let kept : IsKeptLevel g.K.Key.room (length c.args.steps.now) (c.args.number + 1) c.loop-i.runs.items
     (cuts_of born) =
     ended_kept g.K.Key.room c.args.steps.now c.args.number c.args.olds.now births given c.loop-i.runs.items
-    c.loop-i.born c.loop-i.invariant.0 end born c.in_ok-born-2.ensures.there c.in_ok-born-2.ensures.back
-    c.in_ok-born-2.ensures.ascends in (
+    c.loop-i.born c.loop-i.invariant.0 end born c.in_ok-born.ensures.there c.in_ok-born.ensures.back
+    c.in_ok-born.ensures.ascends in (
       subst (λ (m : ℕ). IsKeptLevel g.K.Key.room m (c.args.number + 1) c.loop-i.runs.items (cuts_of born)) e kept,
       counted,
       subst g.K.Key.fits e c.requires.fits,
@@ -341,8 +341,8 @@ returns-clause-level g c =
     (births_size number c.args.births.now) in
     let e : length c.args.steps.now ≡ c.prefix-others.result + 2 =
     omega (arith, c.prefix-others.ensures, c.limits.ensures.two) in
-    let born : List KeyedBirth = births_view number c.in_ok-born-2.born.items in
+    let born : List KeyedBirth = births_view number c.in_ok-born.born.items in
     subst (λ (m : ℕ). IsWholeLevel c.args.steps.now (whole_view m (c.args.number + 1) c.loop-i.runs.items born)) e
     (ended_level g.K.Key.room c.args.steps.now c.args.number c.args.olds.now births given c.loop-i.runs.items
     c.loop-i.born c.loop-i.invariant.0 end
-    born c.in_ok-born-2.ensures.there c.in_ok-born-2.ensures.back)
+    born c.in_ok-born.ensures.there c.in_ok-born.ensures.back)

@@ -39,16 +39,16 @@ invariant_of-result g c =
     (length c.args.steps.now - 2) [] c.add_births.new.born =
     subst (λ (old : List KeyedBirth).
     GrowsBy c.args.steps.now (cut_at (digits (length c.args.steps.now - 2) 0) 0 0) None
-    (length c.args.steps.now - 2) old c.add_births.new.born) c.in_ok-born.ensures
+    (length c.args.steps.now - 2) old c.add_births.new.born) c.new-born.ensures
     (subst (λ (key : ℕ). GrowsBy c.args.steps.now (cut_at (digits (length c.args.steps.now - 2) key) 0 0) None
-    (length c.args.steps.now - 2) c.in_ok-born.born c.add_births.new.born) c.none-2.ensures
+    (length c.args.steps.now - 2) c.new-born.result c.add_births.new.born) c.none-2.ensures
     c.in_ok-add_births.ensures) in
-    let born : List KeyedBirth = births_view g.K.Key.number c.in_ok-born-2.born.items in
+    let born : List KeyedBirth = births_view g.K.Key.number c.in_ok-born.born.items in
     let kept : IsKeptLevel g.K.Key.room (length c.args.steps.now) 0 (first_run ∷ []) (cuts_of born) =
     first_kept c.args.steps.now c.limits.ensures.short c.limits.ensures.walkable c.limits.ensures.two
-    c.add_births.new.born born grown c.in_ok-born-2.ensures.there
-    c.in_ok-born-2.ensures.back g.K.Key.room (g.met.K.Key.fits_room (length c.args.steps.now) c.requires)
-    c.in_ok-born-2.ensures.ascends in (
+    c.add_births.new.born born grown c.in_ok-born.ensures.there
+    c.in_ok-born.ensures.back g.K.Key.room (g.met.K.Key.fits_room (length c.args.steps.now) c.requires)
+    c.in_ok-born.ensures.ascends in (
       subst (λ (rs : List KeyedRun). IsKeptLevel g.K.Key.room (c.prefix-others.result + 2) 0 rs (cuts_of born))
           (sym runs)
           (subst (λ (m : ℕ). IsKeptLevel g.K.Key.room m 0 (first_run ∷ []) (cuts_of born)) e kept),
@@ -69,14 +69,14 @@ returns-clause-level g c =
     (length c.args.steps.now - 2) [] c.add_births.new.born =
     subst (λ (old : List KeyedBirth).
     GrowsBy c.args.steps.now (cut_at (digits (length c.args.steps.now - 2) 0) 0 0) None
-    (length c.args.steps.now - 2) old c.add_births.new.born) c.in_ok-born.ensures
+    (length c.args.steps.now - 2) old c.add_births.new.born) c.new-born.ensures
     (subst (λ (key : ℕ). GrowsBy c.args.steps.now (cut_at (digits (length c.args.steps.now - 2) key) 0 0) None
-    (length c.args.steps.now - 2) c.in_ok-born.born c.add_births.new.born) c.none-2.ensures
+    (length c.args.steps.now - 2) c.new-born.result c.add_births.new.born) c.none-2.ensures
     c.in_ok-add_births.ensures) in
-    let born : List KeyedBirth = births_view g.K.Key.number c.in_ok-born-2.born.items in
+    let born : List KeyedBirth = births_view g.K.Key.number c.in_ok-born.born.items in
     subst (λ (rs : List KeyedRun). IsWholeLevel c.args.steps.now (whole_view (c.prefix-others.result + 2) 0 rs born))
     (sym runs)
     (subst (λ (m : ℕ). IsWholeLevel c.args.steps.now (whole_view m 0 (first_run ∷ []) born)) e
     (first_level c.args.steps.now c.limits.ensures.short
     c.limits.ensures.walkable c.limits.ensures.two c.add_births.new.born
-    born grown c.in_ok-born-2.ensures.there c.in_ok-born-2.ensures.back))
+    born grown c.in_ok-born.ensures.there c.in_ok-born.ensures.back))

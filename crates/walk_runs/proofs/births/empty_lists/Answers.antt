@@ -3,7 +3,7 @@ use Rattle.std.proofs.Common.{rules, ◌≡◌, ◌++◌, List, [], length, map,
 use Rattle.walk_runs.specs.Collected.{births_in}
 use Rattle.walk_runs.specs.Kept.{KeyedBirth, birth_view}
 use Rattle.walk_runs.proofs.Collecting.{births_append}
-use Rattle.walk_runs.proofs.births.Births.new.Goals as goal
+use Rattle.walk_runs.proofs.births.empty_lists.Goals as goal
 
 pub loop-init : goal.loop-init
 loop-init g c =
@@ -19,8 +19,5 @@ loop-preserved g c =
     ∙ ap (map view) c.new.ensures.items in
     (pushed, search rules)
 
-pub invariant_of-result : goal.invariant_of-result
-invariant_of-result g c = search rules
-
-pub returns : goal.returns
-returns g c = c.loop.invariant.0
+pub returns-clause-none : goal.returns-clause-none
+returns-clause-none g c = c.loop.invariant.0
