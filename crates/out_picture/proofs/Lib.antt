@@ -8,3 +8,10 @@ pub mod FlightFacts
 pub mod ReceivedFacts
 pub mod PictureFacts
 pub mod CycleFacts
+pub mod Selected
+pub mod Gridded
+pub mod ColumnsAsked
+pub mod LanesNamed
+pub mod RunShown
+pub mod CycleShown
+pub mod PicturesShow

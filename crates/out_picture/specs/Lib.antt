@@ -9,3 +9,4 @@ pub mod Pictures
 pub mod Cycles
 pub mod CycleTables
 pub mod Scopes
+pub mod Shown
