@@ -7,3 +7,5 @@ pub mod LaneNames
 pub mod GoodEvidence
 pub mod Pictured
 pub mod CycleNames
+pub mod FewProcesses
+pub mod TextsShow

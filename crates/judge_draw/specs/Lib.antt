@@ -7,3 +7,4 @@ pub mod Exhibits
 pub mod Runs
 pub mod Drawn
 pub mod Cycles
+pub mod Shows
