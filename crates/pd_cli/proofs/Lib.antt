@@ -2,6 +2,7 @@
 mod BundleEnds
 mod DrawingEnds
 mod DrawingsRead
+mod DrawingsShown
 mod DueDrawn
 mod Explanations
 mod ExplorationEnds

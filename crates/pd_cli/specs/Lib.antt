@@ -1,4 +1,5 @@
 pub mod Drawings
+pub mod ShownDrawings
 pub mod Explorations
 pub mod Explained
 pub mod Runs

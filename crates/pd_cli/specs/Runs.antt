@@ -5,7 +5,7 @@ use Rattle.clap.specs.Words.{Text}
 use Rattle.def_judgement.specs.Writes.{Source}
 use Rattle.app_arguments.specs.Arguments.{AsksFor}
 use Rattle.app_arguments.specs.Statuses.{CheckFiles, DrawFiles, Ending, Ends, ExploreFiles, Failed, File, HelpLeaves, InferDocument, JudgeFiles, JudgeInput, JudgementLeaves, LeavesOf, MayBeUnread, MemoryFailure, MisuseLeaves, OfConnections, OfFinding, OfNamed, Request, ServeStreams, ServiceMayFail, SessionLeaves, ShowHelp, ShowVersion, TestRuns, Unclear, UnreadClaim, VersionLeaves, sources_of}
-use Rattle.pd_cli.specs.Drawings.{EndsDrawn}
+use Rattle.pd_cli.specs.ShownDrawings.{EndsShown}
 use Rattle.pd_cli.specs.Explorations.{ExplorationLeaves}
 use Rattle.app_host.specs.Formats.{OfFormat}
 use Rattle.app_arguments.specs.Places.{Place}
@@ -29,7 +29,7 @@ Leaves input files connections network_serves (CheckFiles options document repor
     By (LeavesOf options (files document) (UnreadClaim files document report streams)
     (OfFinding (files report).source (sources_of (map files streams))))
 Leaves input files connections network_serves (DrawFiles options scope document others) =
-    EndsDrawn files options document others scope
+    EndsShown files options document others scope
 Leaves input files connections network_serves
     (ServeStreams options fail_on document place port_file watchers wait keep) =
     By (LeavesOf options (files document) (MayBeUnread (files document ∷ []) (files document ∷ []))

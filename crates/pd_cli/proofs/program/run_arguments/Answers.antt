@@ -1,5 +1,6 @@
 -- What is done is what the arguments ask for.
 use Rattle.std.proofs.Common.{inr, map, subst}
+use Rattle.pd_cli.proofs.DrawingsShown.{ends_shown}
 use Rattle.pd_cli.proofs.Explanations.{unexplained}
 use Rattle.clap.specs.Values.{kind_of}
 use Rattle.app_arguments.specs.Views.{IsAsked}
@@ -57,7 +58,7 @@ returns-in-Ok-Draw g c = record {
       _,
       subst (IsAsked (map (λ argument. argument.bytes.items) c.args.arguments.now)) c.in-Ok-Draw.field-0-is
           c.in-Ok-Draw.ensures.asked,
-      c.run_draw.ensures.reported,
+      ends_shown _ _ _ _ _ _ _ _ _ _ c.run_draw.ensures.reported,
     );
   };
 }
