@@ -86,12 +86,17 @@ placing =
     ∷ option (codes "ADDRESS") (codes "bind") kinds.Text ∷ option (codes "PATH") (codes "socket") kinds.Text
     ∷ option (codes "PORT_FILE") (codes "port-file") kinds.Text ∷ []
 
+-- files of notes
+abbrev pub notes : Argument
+notes = option (codes "NOTES") (codes "notes") kinds.Texts
+
 -- what each command takes
 abbrev pub judge_arguments : List Argument
-judge_arguments = on_document ++ (streams ∷ judging) ++ (option (codes "FORMAT") (codes "format") kinds.Text ∷ [])
+judge_arguments =
+    on_document ++ (streams ∷ judging) ++ (option (codes "FORMAT") (codes "format") kinds.Text ∷ notes ∷ [])
 
 abbrev pub check_arguments : List Argument
-check_arguments = on_document ++ (placed (codes "REPORT") kinds.Name ∷ streams ∷ [])
+check_arguments = on_document ++ (placed (codes "REPORT") kinds.Name ∷ streams ∷ notes ∷ [])
 
 abbrev pub draw_arguments : List Argument
 draw_arguments =
@@ -112,7 +117,7 @@ serve_arguments =
 abbrev pub explore_arguments : List Argument
 explore_arguments =
     on_document ++ (streams ∷ judging) ++ wishing
-    ++ (option (codes "NOTES") (codes "notes") kinds.Texts ∷ option (codes "PATTERN") (codes "link") kinds.Text ∷ [])
+    ++ (notes ∷ option (codes "PATTERN") (codes "link") kinds.Text ∷ [])
 
 abbrev pub test_arguments : List Argument
 test_arguments = placed (codes "RUN") kinds.Names ∷ asking ++ (workers ∷ wishing)

@@ -143,7 +143,8 @@ fn conditions_of<'a>(
     FailOn::of(alloc, list)
 }
 
-/// The names of a session's document and of the files beside it, of this id, with what is asked, if all are there.
+/// The names of a session's document, of the files beside it, of this id, and of files of notes, with what is asked, if
+/// the first two are there.
 fn session_names<'a>(
     alloc: Global,
     matches: &ArgMatches<'a>,
@@ -154,6 +155,8 @@ fn session_names<'a>(
         NamesSession (rows_in matches.now) id.now (session_view names).0 (session_view names).1)) }
     ensures options { IfOk result (λ names. IfSome names (λ names.
         options_view names.options ≡ options_view options.entry)) }
+    ensures notes { IfOk result (λ names. IfSome names (λ names.
+        names_view names.notes.items ≡ texts_of (rows_in matches.now) (codes "NOTES"))) }
     ensures none { IfOk result (λ names. names ≡ None → (document : Text) (files : List Text)
         → ¬ NamesSession (rows_in matches.now) id.now document files) }
 {
@@ -163,10 +166,12 @@ fn session_names<'a>(
     let Some(streams) = names_of(alloc, matches, id)? else {
         return Ok(None);
     };
+    let notes = texts_of(alloc, matches, "NOTES")?;
     Ok(Some(SessionNames {
         spec,
         streams,
         options,
+        notes,
     }))
 }
 

@@ -58,6 +58,8 @@ definitely-no  it is no\n  \
 unknown        one of the two answers is unknown\n\n\
 With --format json the report is one line with a JSON object, for programs, in place of its lines; its field `report` \
 has these.\n\n\
+With --notes an explanation says what recorders noted of the events that it names, in files beside the streams. The \
+report and the status are the same.\n\n\
 An answer is unknown where a level of the lattice has more cuts than the document's width. With --beyond-width \
 predicates that name at most two processes are answered all the same and, as far as docs/SPECIFICATION.md says, those \
 of which each comparison names one process; and whether an `or` of such predicates, or most predicates with one sum \
@@ -80,6 +82,8 @@ pub(crate) const CHECK_AFTER: &str =
     "What is found is written to the standard output. The status is 0 if nothing in it is bad, 1 if something is, 2 if \
 the arguments are refused, 3 if a file can't be opened or read or the output can't be written, and 4 if memory runs \
 out.\n\n\
+With --notes an explanation says what recorders noted of the events that it names, in files beside the streams. What \
+is found and the status are the same.\n\n\
 The formats are described in docs/SPECIFICATION.md. An example, at the top of the repository:\n  \
 crates/monitor/out/monitor check examples/ten-lines/session.json examples/ten-lines/report \
 examples/ten-lines/left.stream examples/ten-lines/right.stream";

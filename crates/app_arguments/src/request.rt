@@ -17,6 +17,8 @@ pub struct SessionNames<'a> {
     pub streams: Vec<&'a str>,
     /// What is asked beside the document.
     pub options: Options<'a>,
+    /// Of files of notes on events, in their order, of which an explanation says what they say.
+    pub notes: Vec<&'a str>,
 }
 
 /// What a judgement of files is asked for, whether its report is written or the page on which its run is explored.

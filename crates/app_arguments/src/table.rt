@@ -1,5 +1,5 @@
 //! The table of the program's commands: what each takes, and what its help says of it.
-ghost use Rattle.app_arguments.specs.Table.{asking, beyond_width, check_arguments, column_number_limit, draw_arguments, explain, explore_arguments, infer_arguments, judge_arguments, option, placed, port_limit, serve_arguments, streams, test_arguments, wait_limit, watcher_limit, workers};
+ghost use Rattle.app_arguments.specs.Table.{asking, beyond_width, check_arguments, column_number_limit, draw_arguments, explain, explore_arguments, infer_arguments, judge_arguments, notes, option, placed, port_limit, serve_arguments, streams, test_arguments, wait_limit, watcher_limit, workers};
 ghost use Rattle.app_arguments.specs.Views.{row_view};
 ghost use Rattle.app_arguments.specs.declared.table.ArgumentKind.TheVariants as kinds;
 ghost use Rattle.def_format.specs.Limits.{width_limit, worker_limit};
@@ -422,13 +422,26 @@ fn shown_sometimes() -> Row
 
 /// Files of notes.
 fn notes() -> Row
-    ensures { row_view result ≡ option (codes "NOTES") (codes "notes") kinds.Texts }
+    ensures { row_view result ≡ notes }
 {
     option(
         "NOTES",
         "notes",
         ArgumentKind::Texts,
         "A file of notes on events, as recorders write them beside a stream; given again, one more",
+    )
+}
+
+/// Files of notes for an explanation.
+fn explained_notes() -> Row
+    ensures { row_view result ≡ notes }
+{
+    option(
+        "NOTES",
+        "notes",
+        ArgumentKind::Texts,
+        "A file of notes on events, as recorders write them beside a stream, which an explanation quotes; given \
+again, one more",
     )
 }
 
@@ -456,7 +469,7 @@ fn runs() -> Row
 }
 
 /// What `judge` takes, in the order of its help.
-pub(crate) fn judge_arguments() -> [Row; 9]
+pub(crate) fn judge_arguments() -> [Row; 10]
     ensures { map row_view result ≡ judge_arguments }
 {
     [
@@ -469,14 +482,23 @@ pub(crate) fn judge_arguments() -> [Row; 9]
         beyond_width(),
         fail_on(),
         format(),
+        explained_notes(),
     ]
 }
 
 /// What `check` takes, in the order of its help.
-pub(crate) fn check_arguments() -> [Row; 6]
+pub(crate) fn check_arguments() -> [Row; 7]
     ensures { map row_view result ≡ check_arguments }
 {
-    [spec(), explain(), width(), ask(), report(), streams()]
+    [
+        spec(),
+        explain(),
+        width(),
+        ask(),
+        report(),
+        streams(),
+        explained_notes(),
+    ]
 }
 
 /// What `draw` takes, in the order of its help.
