@@ -1,18 +1,13 @@
 //! Says where an event was recorded, and what it did.
-use super::session::{Session, name_of, source_of};
-use app_text::{Source, record_after, say, say_name, say_number, say_shown};
+use super::session::{Session, name_of, noted_at, source_of};
+use app_text::{Source, record_after, say, say_name, say_note, say_number, say_shown};
 use judge_facts::{has_event, kind_at};
 use pd_clock::{Computation, Place};
 use read_traces::Kind;
 use std::alloc::AllocError;
 
 /// Says in which file and line the event with this number was recorded.
-pub(crate) fn say_record(
-    out: &mut Vec<u8>,
-    source: &Source<'_>,
-    number: u64,
-) -> Result<(), AllocError> {
-    say(out, " (")?;
+fn say_record(out: &mut Vec<u8>, source: &Source<'_>, number: u64) -> Result<(), AllocError> {
     say_shown(out, source.name.as_bytes())?;
     if let Some(record) = record_after(source.bytes, number) {
         say(out, ", line ")?;
@@ -22,7 +17,7 @@ pub(crate) fn say_record(
             say_number(out, source.before.saturating_add(record.line))?;
         }
     }
-    say(out, ")")
+    Ok(())
 }
 
 /// The event that sent what the event at this place received, if it is a receipt.
@@ -96,14 +91,31 @@ pub(crate) fn say_next(
     }
 }
 
-/// Says in which file and line an event was recorded, if that is known.
+/// Says in which file and line an event was recorded, and what was noted of it, as far as that is known.
 pub(crate) fn say_place(
     out: &mut Vec<u8>,
     session: &Session<'_, '_>,
     place: Place,
 ) -> Result<(), AllocError> {
-    match source_of(session.sources, place.process) {
-        Some(source) => say_record(out, &source, place.number),
-        None => Ok(()),
+    let source = source_of(session.sources, place.process);
+    let noted = noted_at(session, place);
+    if source.is_none() && noted.is_none() {
+        return Ok(());
     }
+    say(out, " (")?;
+    if let Some(source) = source {
+        say_record(out, &source, place.number)?;
+    }
+    if let Some(noted) = noted {
+        say(
+            out,
+            if source.is_some() {
+                "; note: "
+            } else {
+                "note: "
+            },
+        )?;
+        say_note(out, &noted)?;
+    }
+    say(out, ")")
 }

@@ -1,8 +1,9 @@
 //! A session that was judged, with what was read of it.
 use app_text::Source;
-use pd_clock::Computation;
+use pd_clock::{Computation, Place};
 use pd_pred::Names;
 use pd_spec::Spec;
+use read_notes::{EventNotes, Noted};
 use read_traces::Trace;
 
 /// A session that was judged, with what was read of it.
@@ -16,6 +17,8 @@ pub struct Session<'a, 'c> {
     pub computation: &'a Computation<'c>,
     /// What was read of the stream of each process, in the same order, if it is known.
     pub sources: &'a [Option<Source<'a>>],
+    /// What was noted of events, if notes were read.
+    pub notes: Option<&'a EventNotes>,
 }
 
 /// The name of process `p`, which is counted from 0; it is empty if there is no such process.
@@ -34,6 +37,12 @@ pub(crate) fn vars_of(names: &Names, p: usize) -> &[String] {
     } else {
         &[]
     }
+}
+
+/// What was noted of the event at this place, if it is known.
+pub(crate) fn noted_at<'a>(session: &Session<'a, '_>, place: Place) -> Option<Noted<'a>> {
+    let name = name_of(session.spec.names(), place.process);
+    session.notes?.of(name, place.number)
 }
 
 /// What was read of the stream of process `p`, if it is known.

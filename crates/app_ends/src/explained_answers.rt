@@ -10,6 +10,7 @@ use judge_draw::read_session;
 use judge_session::{Inquiry, computation_of};
 use pd_report::Answer;
 use pd_spec::{Options, Spec};
+use read_notes::EventNotes;
 use read_traces::Trace;
 use std::alloc::{AllocError, Global};
 use std::random::RandomSource;
@@ -87,6 +88,7 @@ fn put_traces<R: RandomSource>(
     spec: &Spec,
     traces: &[Trace],
     sources: &[Option<Source<'_>>],
+    notes: Option<&EventNotes>,
     judged: Judged,
     answers: &[Answer],
 ) -> Result<(), AllocError>
@@ -100,6 +102,7 @@ fn put_traces<R: RandomSource>(
         traces,
         computation: &formed.0,
         sources,
+        notes,
     };
     put_session(out, rt, alloc, &session, judged, answers)
 }
@@ -128,6 +131,7 @@ fn put_read<T: RandomSource + Threads + Wait + Sync>(
         &read.spec,
         &read.traces,
         &sources,
+        seen.notes,
         judged,
         answers,
     )

@@ -4,13 +4,14 @@ ghost use Rattle.app_ends.specs.Shown.{AreRowsOrText};
 use super::explained_answers::put_answers;
 use super::reasons::put_reasons;
 use super::seen_files::{seen_document, seen_file, seen_streams};
+use super::seen_notes::notes_of;
 use super::seen_parts::{document_of, parts_of, streams_of};
 use super::unknown_names::{put_unknown_condition, put_unknown_wish};
 use app_arguments::{Judgement, PageOptions, SessionNames};
 use app_explain::{
-    Judged, Seen, SeenStream, Widest, explain_bundle_fault, explain_file, explain_finding,
-    explain_long_report, explain_memory, explain_no_file, explain_no_picture, explain_no_predicate,
-    explain_output, explain_refusal, explain_unread_finding,
+    Judged, NotedEvents, Seen, SeenStream, Widest, explain_bundle_fault, explain_file,
+    explain_finding, explain_long_report, explain_memory, explain_no_file, explain_no_picture,
+    explain_no_predicate, explain_output, explain_refusal, explain_unread_finding,
 };
 use app_host::{FileSource, Note, System, World, check_seen};
 use app_text::{Source, in_rows, say};
@@ -146,7 +147,7 @@ pub fn put_fault<Y: System>(
 }
 
 /// Explains the answers of the report of files, or why it is a refusal, and how it meets the conditions, if there are
-/// some.
+/// some; and then what can't be read of notes.
 fn put_files_report<Y: System>(
     out: &mut Vec<u8>,
     world: &World<'_, Y>,
@@ -156,14 +157,18 @@ fn put_files_report<Y: System>(
 ) -> Result<(), AllocError> {
     let names = &judgement.names;
     let streams = seen_streams(world.alloc, world.notes, &names.streams)?;
+    let mut unread = Vec::new(world.alloc);
+    let notes = notes_of(&mut unread, world, names);
     let seen = Seen {
         document: seen_document(world.notes, names.spec),
         options: Some(&names.options),
         streams: &streams,
         order: "",
+        notes: notes.as_ref(),
     };
     put_report(out, world.rt, world.alloc, seen, widest, report)?;
-    put_reasons(out, world.alloc, &judgement.fail_on, report)
+    put_reasons(out, world.alloc, &judgement.fail_on, report)?;
+    out.extend_from_slice(&unread)
 }
 
 /// What is read of the document in a session's file, with what is asked.
@@ -173,6 +178,7 @@ fn seen_alone<'a, Y: System>(world: &World<'a, Y>, names: &'a SessionNames<'a>) 
         options: Some(&names.options),
         streams: &[],
         order: "",
+        notes: None,
     }
 }
 
@@ -290,7 +296,7 @@ pub fn exploration_text<Y: System>(
     rows_of(world.alloc, out)
 }
 
-/// Explains why the session in files is refused.
+/// Explains why the session in files is refused, and then what can't be read of notes.
 fn put_refusal<Y: System>(
     out: &mut Vec<u8>,
     world: &World<'_, Y>,
@@ -298,13 +304,17 @@ fn put_refusal<Y: System>(
     refusal: &Refusal,
 ) -> Result<(), AllocError> {
     let streams = seen_streams(world.alloc, world.notes, &names.streams)?;
+    let mut unread = Vec::new(world.alloc);
+    let notes = notes_of(&mut unread, world, names);
     let seen = Seen {
         document: seen_document(world.notes, names.spec),
         options: Some(&names.options),
         streams: &streams,
         order: "",
+        notes: notes.as_ref(),
     };
-    explain_refusal(out, world.alloc, seen, refusal)
+    explain_refusal(out, world.alloc, seen, refusal)?;
+    out.extend_from_slice(&unread)
 }
 
 /// The explanation of the refusal of the session in files, as far as it could be made, whether one is wanted or not.
@@ -332,6 +342,7 @@ fn put_parts_report<Y: System>(
         options: None,
         streams,
         order: "Streams count in the order in which they stand in the bundle.\n",
+        notes: None,
     };
     put_report(out, world.rt, world.alloc, seen, widest, report)
 }
@@ -399,6 +410,26 @@ fn stream_bytes<'a, Y: System>(
     Ok(Some(streams))
 }
 
+/// Explains what a check found of this report, and then what can't be read of notes.
+fn put_found<Y: System>(
+    out: &mut Vec<u8>,
+    world: &World<'_, Y>,
+    names: &SessionNames<'_>,
+    claim: &Source<'_>,
+    found: &[u8],
+) -> Result<(), AllocError> {
+    let mut unread = Vec::new(world.alloc);
+    let notes = notes_of(&mut unread, world, names);
+    match (seen_alone(world, names).spec(world.alloc), &notes) {
+        (Some(spec), Some(notes)) => {
+            let names = spec.names();
+            explain_finding(out, claim, found, Some(NotedEvents { names, notes }))?;
+        }
+        _ => explain_finding(out, claim, found, None)?,
+    }
+    out.extend_from_slice(&unread)
+}
+
 /// Explains what is bad in a report, by a check of what was read.
 fn put_finding<Y: System>(
     out: &mut Vec<u8>,
@@ -413,7 +444,7 @@ fn put_finding<Y: System>(
         return explain_unread_finding(out);
     };
     let found = check_seen(world, document.bytes, &names.options, claim.bytes, streams);
-    explain_finding(out, &claim, &found)
+    put_found(out, world, names, &claim, &found)
 }
 
 /// Explains how a check ended.

@@ -1,4 +1,4 @@
-//! Explains how a run ended, by what it has read: no file is opened again.
+//! Explains how a run ended, by what it has read: no file of a session is opened again.
 //!
 //! Explanations are for a person. Stated is what they are made of: the parts of a bundle with the lines before them,
 //! what files and parts are called, and that a text is shown in rows. Which sentence is chosen at which end is not; the
@@ -6,6 +6,7 @@
 //!
 //! - `seen_files`: what a run has read of files
 //! - `seen_parts`: what a run has read of a bundle
+//! - `seen_notes`: reads notes on events
 //! - `explained_answers`: explains the answers of a session
 //! - `explained_ends`: explains how a run ended
 //! - `reasons`: says why a run ends with status 5
@@ -16,6 +17,7 @@ mod explained_answers;
 mod explained_ends;
 mod reasons;
 mod seen_files;
+mod seen_notes;
 mod seen_parts;
 mod unknown_names;
 

@@ -1,4 +1,7 @@
 //! Explains what is bad in what a check finds.
+use super::known_names::name_at;
+use super::messages::EventName;
+use super::noted::{NotedEvents, put_noted_event};
 use app_text::{Source, cut_line, line_at, say, say_shown, show_numbered};
 use std::alloc::AllocError;
 
@@ -39,12 +42,24 @@ fn without_end<'a>(line: &'a [u8], end: &[u8]) -> Option<&'a [u8]> {
     None
 }
 
+/// Says what was noted of the last event of each process at a cut, which has this text, as `2,1`.
+fn say_cut(out: &mut Vec<u8>, events: NotedEvents<'_>, cut: &[u8]) -> Result<(), AllocError> {
+    for (place, text) in cut.split(|byte| *byte == b',').enumerate() {
+        if let Some(number) = number_after(text, b"") {
+            let process = name_at(events.names, place);
+            put_noted_event(out, events.notes, EventName { process, number })?;
+        }
+    }
+    Ok(())
+}
+
 /// Explains that the evidence for an answer about a predicate is bad, and shows it.
 fn say_evidence(
     out: &mut Vec<u8>,
     report: &Source<'_>,
     name: &[u8],
     is_cut: bool,
+    events: Option<NotedEvents<'_>>,
 ) -> Result<(), AllocError> {
     let question: &[u8] = if is_cut {
         b" possibly "
@@ -58,10 +73,24 @@ fn say_evidence(
     match line_with(report.bytes, name, question) {
         Some(number) => {
             let line = line_at(report.bytes, number);
-            show_numbered(out, report, number, line, None)
+            show_numbered(out, report, number, line, None)?;
+            match (events, cut_in(line, name)) {
+                (Some(events), Some(cut)) => say_cut(out, events, cut),
+                _ => Ok(()),
+            }
         }
         None => Ok(()),
     }
+}
+
+/// The cut in the line of a report that has one for the predicate of this name.
+fn cut_in<'a>(line: &'a [u8], name: &[u8]) -> Option<&'a [u8]> {
+    let answer = b" possibly yes ".as_slice();
+    let rest = line.get(name.len()..)?;
+    if !rest.starts_with(answer) {
+        return None;
+    }
+    rest.get(answer.len()..)
 }
 
 /// The number after these bytes, if the line begins with them.
@@ -82,7 +111,12 @@ fn number_after(line: &[u8], before: &[u8]) -> Option<u64> {
 }
 
 /// Explains one line of what a check finds.
-fn say_line(out: &mut Vec<u8>, report: &Source<'_>, line: &[u8]) -> Result<(), AllocError> {
+fn say_line(
+    out: &mut Vec<u8>,
+    report: &Source<'_>,
+    line: &[u8],
+    events: Option<NotedEvents<'_>>,
+) -> Result<(), AllocError> {
     if let Some(number) = number_after(line, b"report line ") {
         say(out, "From this line on the file isn't a report.\n")?;
         let shown = line_at(report.bytes, number);
@@ -109,10 +143,10 @@ see what it comes to.\n",
         );
     }
     if let Some(name) = without_end(line, b" possibly bad") {
-        return say_evidence(out, report, name, true);
+        return say_evidence(out, report, name, true, events);
     }
     match without_end(line, b" definitely bad") {
-        Some(name) => say_evidence(out, report, name, false),
+        Some(name) => say_evidence(out, report, name, false, events),
         None => Ok(()),
     }
 }
@@ -139,7 +173,8 @@ pub fn explain_no_picture(out: &mut Vec<u8>) -> Result<(), AllocError> {
     )
 }
 
-/// Explains each line of what a check finds of this report that says that something is bad.
+/// Explains each line of what a check finds of this report that says that something is bad. Of a bad cut it says what
+/// was noted of its events, if that is known.
 ///
 /// # Errors
 /// Out of memory; what was put until then stays.
@@ -147,11 +182,12 @@ pub fn explain_finding(
     out: &mut Vec<u8>,
     report: &Source<'_>,
     found: &[u8],
+    events: Option<NotedEvents<'_>>,
 ) -> Result<(), AllocError> {
     let mut rest = found;
     for _line in 0..found.len() {
         let (line, after) = cut_line(rest);
-        say_line(out, report, line)?;
+        say_line(out, report, line, events)?;
         let Some(after) = after else {
             return Ok(());
         };

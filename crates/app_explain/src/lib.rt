@@ -22,6 +22,7 @@
 //! - `peers`: who sends the streams of a server, and who is missing
 //! - `served_places`: where a server waits for streams and watchers
 //! - `messages`: why messages, a causal cycle, or a list of streams are refused
+//! - `noted`: what was noted of events
 //! - `words`: the words of refusals
 //! - `answers`: what an answer leaves unknown
 //! - `findings`: what is bad in what a check finds
@@ -42,6 +43,7 @@ mod known_names;
 mod messages;
 mod near_names;
 mod nearest;
+mod noted;
 mod peers;
 mod predicate_hints;
 mod predicates;
@@ -58,6 +60,7 @@ pub use faults::{
     explain_no_predicate, explain_output,
 };
 pub use findings::{explain_finding, explain_no_picture, explain_unread_finding};
+pub use noted::{NotedEvents, explain_wrong_notes};
 pub use peers::{
     Sender, explain_sent_stream, explain_unkept, explain_wait, tell_connection, tell_refusal,
     tell_start, tell_stop,

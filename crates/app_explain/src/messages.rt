@@ -135,7 +135,7 @@ pub struct Others<'a> {
 }
 
 /// Shows the first event of a stream that sends or receives the message with this id, as the field says, and isn't the
-/// event with this number. It gives whether there is one.
+/// event with this number. It gives the number of the one that it shows.
 ///
 /// # Errors
 /// Out of memory; what was put until then stays.
@@ -146,22 +146,22 @@ pub fn show_other(
     others: Others<'_>,
     id: &str,
     but: u64,
-) -> Result<bool, AllocError> {
+) -> Result<Option<u64>, AllocError> {
     let mut rest = source.bytes;
     let mut line = 0u64;
     for number in 0..u64::MAX {
         let Some(record) = next_record(rest, line) else {
-            return Ok(false);
+            return Ok(None);
         };
         rest = record.after;
         line = record.line;
         if number > 0 && number != but && has_id(alloc, record.bytes, others.field, id)? {
             say(out, others.said)?;
             show_numbered(out, source, line, record.bytes, None)?;
-            return Ok(true);
+            return Ok(Some(number));
         }
     }
-    Ok(false)
+    Ok(None)
 }
 
 /// Whether a record sends or receives, as the field says, the message with this id.

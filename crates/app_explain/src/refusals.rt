@@ -4,6 +4,7 @@ use super::messages::{
     EventName, Others, advise_absent, advise_cycle, advise_messages, explain_absent, explain_cycle,
     explain_message, explain_streams, message_of, show_event, show_join, show_other, show_step,
 };
+use super::noted::{put_last_note, put_note};
 use super::predicates::{PredicateFault, explain_predicate, explain_predicate_word};
 use super::seen::{Seen, SeenStream};
 use super::streams::{
@@ -194,8 +195,14 @@ fn put_line(
     fault: StreamFault,
 ) -> Result<(), AllocError> {
     match seen.spec(alloc) {
-        Some(spec) => explain_stream(out, alloc, spec.names(), *stream, seen.order, fault),
-        None => explain_stream_word(out, fault, stream.file, seen.order),
+        Some(spec) => explain_stream(out, alloc, spec.names(), *stream, seen.order, fault)?,
+        None => explain_stream_word(out, fault, stream.file, seen.order)?,
+    }
+    match (stream.source, process_of(alloc, stream)?) {
+        (Some(source), Some(process)) => {
+            put_last_note(out, seen.notes, &process, source.bytes, fault.line)
+        }
+        _ => Ok(()),
     }
 }
 
@@ -256,6 +263,27 @@ fn senders() -> Others<'static> {
     }
 }
 
+/// Shows another event of a stream that sends or receives this message, with what was noted of it. It gives whether
+/// there is one.
+fn put_other(
+    out: &mut Vec<u8>,
+    alloc: Global,
+    seen: Seen<'_>,
+    source: &Source<'_>,
+    others: Others<'_>,
+    id: &str,
+    but: u64,
+) -> Result<bool, AllocError> {
+    let Some(number) = show_other(out, alloc, source, others, id, but)? else {
+        return Ok(false);
+    };
+    if let Some(process) = joined_name(alloc, source.bytes)? {
+        let process = process.as_str();
+        put_note(out, seen.notes, EventName { process, number })?;
+    }
+    Ok(true)
+}
+
 /// Shows the other events that send or receive this message.
 fn put_others(
     out: &mut Vec<u8>,
@@ -268,7 +296,7 @@ fn put_others(
     for (place, stream) in seen.streams.iter().enumerate() {
         if let Some(source) = stream.source {
             let number = if place == but.0 { but.1 } else { 0 };
-            let _ = show_other(out, alloc, &source, others, id, number)?;
+            let _ = put_other(out, alloc, seen, &source, others, id, number)?;
         }
     }
     Ok(())
@@ -286,6 +314,7 @@ fn put_event(
         return Ok(());
     };
     show_event(out, &source, event)?;
+    put_note(out, seen.notes, event)?;
     if word == MessageWord::Orphan {
         return Ok(());
     }
@@ -295,7 +324,7 @@ fn put_event(
     let others = others_of(word);
     // A process that receives a message twice has that fault in either version, whoever else receives it.
     if word == MessageWord::ReceivedTwice
-        && show_other(out, alloc, &source, others, &id, event.number)?
+        && put_other(out, alloc, seen, &source, others, &id, event.number)?
     {
         return Ok(());
     }
@@ -313,6 +342,7 @@ fn put_step(
         return show_step(out, alloc, None, event);
     };
     show_step(out, alloc, Some(&source), event)?;
+    put_note(out, seen.notes, event)?;
     match message_of(alloc, source.bytes, event.number)? {
         Some(id) => put_others(out, alloc, seen, senders(), &id, (place, 0)),
         None => Ok(()),

@@ -1,6 +1,7 @@
 //! What a run has read of the session that is explained.
 use app_text::Source;
 use pd_spec::{Options, Spec};
+use read_notes::EventNotes;
 use std::alloc::Global;
 
 /// A stream, as far as it was read.
@@ -25,6 +26,8 @@ pub struct Seen<'a> {
     pub streams: &'a [SeenStream<'a>],
     /// In which order streams count that have no files, in a sentence; it is empty for files.
     pub order: &'a str,
+    /// What was noted of events, if notes were read.
+    pub notes: Option<&'a EventNotes>,
 }
 
 impl<'a> Seen<'a> {

@@ -112,11 +112,11 @@ fn seen_streams<'a>(
 }
 
 /// Explains the answers of a server's report, or why it is a refusal, by these streams.
-fn put_seen_report<T: RandomSource + Threads + Wait + Sync, F: FileSource, N>(
+fn put_seen_report<'a, T: RandomSource + Threads + Wait + Sync, F: FileSource, N>(
     out: &mut Vec<u8>,
     rt: &T,
-    host: &Host<'_, F, N>,
-    streams: &[SeenStream<'_>],
+    host: &'a Host<'a, F, N>,
+    streams: &'a [SeenStream<'a>],
     report: &Report,
 ) -> Result<(), AllocError> {
     let seen = Seen {
@@ -124,6 +124,7 @@ fn put_seen_report<T: RandomSource + Threads + Wait + Sync, F: FileSource, N>(
         options: Some(&host.service.options),
         streams,
         order: "Streams count in the order in which they connected.\n",
+        notes: None,
     };
     put_report(out, rt, host.alloc, seen, host.gate.widest(), report)?;
     put_reasons(out, host.alloc, &host.service.fail_on, report)

@@ -9,10 +9,12 @@
 //! - `lines`: the lines of bytes, and places in them
 //! - `window`: a line with a caret below a place of it
 //! - `source`: what was read of a file, and its lines as they are shown
+//! - `noted`: what was noted of an event
 //! - `rows`: the lines of an explanation, no wider than 80 columns
 #![tactic(auto)]
 
 mod lines;
+mod noted;
 mod rows;
 mod says;
 mod source;
@@ -22,6 +24,7 @@ pub use lines::{
     Record, cut_line, line_at, line_of_place, next_record, place_of_name, places_of_name,
     record_after,
 };
+pub use noted::say_note;
 pub use rows::in_rows;
 pub use says::{say, say_advice, say_name, say_number, say_shown};
 pub use source::{Source, show_line_of, show_numbered, show_place};
