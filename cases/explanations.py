@@ -320,6 +320,46 @@ def answers():
                ("serve", "session.json", "--port", "FREE", "--keep", "kept"), peers=(TAKES, EARLY))
 
 
+def note(process, event, text, place=""):
+    """A line of notes."""
+    return json.dumps({"process": process, "event": event, "text": text, "place": place}) + "\n"
+
+
+def with_notes(case, text, *words):
+    """The same with a file of notes."""
+    return case._replace(files={**case.files, "notes": text}, words=(*case.words, "--notes", "notes", *words))
+
+
+def noted():
+    """Events of which something was noted."""
+    text = note("a", 1, "takes the token", "/src/worker.go:31") + note("a", 2, "", "/src/worker.go:34") + note(
+        "b", 1, "has it") + note("b", 2, "is f\u00fcll of it", "turn.py:9") + note("b", 1, "", "turn.py:7")
+    can = session("notes on the events of a cut", a=EARLY, b=TAKES)
+    yield with_notes(can, text)
+    yield with_notes(paged(can._replace(name="notes on the events of a cut of which a page is written")), text)
+    yield with_notes(session("notes on the events of messages that prevent a state", a=LATE, b=TAKES), text)
+    yield with_notes(session("notes on the events of a cycle", a=A + '{"recv":"m2"}\n{"send":"m1"}\n' + END,
+                             b=B + '{"recv":"m1"}\n{"send":"m2"}\n' + END), text)
+    yield with_notes(session("notes on events that receive one message", a=A + '{"send":"m1"}\n' + END,
+                             b=B + '{"recv":"m1"}\n{"recv":"m1"}\n' + END), text)
+    yield with_notes(session("a note on the last event before a line that is refused",
+                             a=A + '\n{"set":{"x":1}}\n\n{}\n{"set":{"z":1}}\n' + END), text)
+    yield with_notes(session("a note on the last event of a stream without an end line", b=B + '{"set":{"y":1}}\n'), text)
+    yield with_notes(session("notes on no event that is named", document("a.x == 2")), text)
+    odd = note("b", 1, "has it") + "none\n\n[]\n" + note(1, 1, "x") + note("a", 0, "x") + note("a", 1.5, "x") + note(
+        "a", 1, None) + note("a", 1, "x", None) + '{"process":"a","event":1,"text":"x","clock":"now"}\n'
+    yield with_notes(session("lines that are no notes, and notes that aren't there", a=EARLY, b=TAKES), odd,
+                     "--notes", "gone")
+    for name, line in (("no object", "7"), ("no process", note(1, 1, "x")), ("no event", note("a", 0, "x")),
+                       ("no text", note("a", 1, None)), ("no place", note("a", 1, "x", None)),
+                       ("no clock", '{"process":"a","event":1,"text":"x","clock":"now"}')):
+        yield with_notes(session(f"a line of notes has {name}", a=EARLY, b=TAKES), line)
+    report = "session 2 processes 7 events 2 messages\nboth possibly yes 2,2\nboth definitely no a\n"
+    yield with_notes(session("notes on the events of a cut that is bad", a=EARLY, b=TAKES)._replace(
+        words=("check", "session.json", "report", "a.stream", "b.stream"),
+        files={"session.json": document(), "report": report, "a.stream": EARLY, "b.stream": TAKES}), text)
+
+
 def bundle(*parts):
     """A bundle of a document and streams."""
     return "---\n".join(parts).encode()
@@ -409,7 +449,7 @@ KINDS = {
     "The session document": documents, "The text of a predicate": predicates,
     "The text of a predicate that is asked for": asked, "A line of a stream": lines,
     "The list of streams": streams, "Messages": messages, "Answers": answers,
-    "Unknown answers": unknown,
+    "Notes": noted, "Unknown answers": unknown,
     "Reports that a check finds bad": checks,
     "What comes by a pipe or a connection": connections, "A bundle": bundles, "Faults": faults,
 }
