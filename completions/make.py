@@ -317,7 +317,8 @@ def wrong_completions(files):
         "monitor --explain ju": ["judge"],
         "monitor --explain draw session report a --evidence ": ["possibly", "definitely"],
         "monitor judge -": [
-            "--width", "--ask", "--workers", "--beyond-width", "--fail-on", "--format", "-h", "--help", "--explain"],
+            "--width", "--ask", "--workers", "--beyond-width", "--fail-on", "--format", "--notes", "-h", "--help",
+            "--explain"],
         "monitor judge --fa": ["--fail-on"],
         "monitor judge session --format ": ["text", "json"],
         "monitor test --n": ["--never"],

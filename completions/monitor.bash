@@ -41,6 +41,8 @@ _monitor() {
     --format)
       COMPREPLY=($(compgen -W 'text json' -- "$current"))
       return ;;
+    --notes)
+      return ;;
     --predicate)
       return ;;
     --evidence)
@@ -68,14 +70,12 @@ _monitor() {
       return ;;
     --sometimes)
       return ;;
-    --notes)
-      return ;;
     --link)
       return ;;
   esac
   case "$command" in
-    judge) options='--explain --width --ask --workers --beyond-width --fail-on --format -h --help' ;;
-    check) options='--explain --width --ask -h --help' ;;
+    judge) options='--explain --width --ask --workers --beyond-width --fail-on --format --notes -h --help' ;;
+    check) options='--explain --width --ask --notes -h --help' ;;
     draw) options='--explain --width --ask --beyond-width --predicate --evidence --from --all -h --help' ;;
     serve) options='--explain --width --ask --port --bind --socket --port-file --watchers --wait --keep --workers --beyond-width --fail-on -h --help' ;;
     explore) options='--explain --width --ask --workers --beyond-width --fail-on --never --always --sometimes --notes --link -h --help' ;;
