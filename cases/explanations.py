@@ -332,7 +332,7 @@ def with_notes(case, text, *words):
 
 def noted():
     """Events of which something was noted."""
-    text = note("a", 1, "takes the token", "/src/worker.go:31") + note("a", 2, "", "/src/worker.go:34") + note(
+    text = note("a", 1, "", "/src/worker.go:31") + note("a", 2, "hands the token on", "/src/worker.go:34") + note(
         "b", 1, "has it") + note("b", 2, "is f\u00fcll of it", "turn.py:9") + note("b", 1, "", "turn.py:7")
     can = session("notes on the events of a cut", a=EARLY, b=TAKES)
     yield with_notes(can, text)
