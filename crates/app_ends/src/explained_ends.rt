@@ -420,7 +420,7 @@ fn put_found<Y: System>(
 ) -> Result<(), AllocError> {
     let mut unread = Vec::new(world.alloc);
     let notes = notes_of(&mut unread, world, names);
-    match (seen_alone(world, names).spec(world.alloc), &notes) {
+    match (seen_alone(world, names).spec(world.alloc), notes.as_ref()) {
         (Some(spec), Some(notes)) => {
             let names = spec.names();
             explain_finding(out, claim, found, Some(NotedEvents { names, notes }))?;
