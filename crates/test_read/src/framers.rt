@@ -1,9 +1,8 @@
-//! Lines from pieces: `Framer::feed`, `copy` and `finish`, again after a refusal, in pieces of any size, at a fault.
-ghost use Rattle.std.specs.Prelude.{◌≡◌, ◌<◌, IfSome, false};
+//! Lines from pieces: `Framer::feed`, `copy` and `finish`, again after a refusal.
+ghost use Rattle.std.specs.Prelude.{◌≡◌, IfSome, false};
 
-use def_format::LINE_BYTE_LIMIT;
-use pd_frames::{Batch, FrameFault, Framer, Line, has_line_feed};
-use std::alloc::{AllocError, Global};
+use pd_frames::{Batch, Framer, Line};
+use std::alloc::Global;
 use std::test::Fail;
 
 /// What a piece gives. If memory is refused the framer stands where it stood, and the piece is fed again.
@@ -95,68 +94,4 @@ fn lines_come_again(rt: HostRuntime) -> Result<(), Fail> {
         println!(rt; "a call was made again")?;
     }
     Ok(())
-}
-
-/// What a stream gives that comes in pieces of this size, and the number of the line at its end.
-fn framed<'a>(alloc: Global, stream: &'a [u8], size: usize) -> Result<(Batch<'a>, u64), AllocError>
-    requires { 0 < size }
-{
-    let mut framer = Framer::new(alloc);
-    let mut lines = Vec::new(alloc);
-    for piece in stream.chunks(size) {
-        let mut batch = framer.feed(piece)?;
-        lines.append(&mut batch.lines)?;
-    }
-    let mut last = framer.finish()?;
-    lines.append(&mut last.lines)?;
-    let fault = last.fault;
-    Ok((Batch { lines, fault }, framer.line()))
-}
-
-#[test]
-fn lines_come_in_pieces_of_any_size(rt: HostRuntime) -> Result<(), Fail> {
-    let want = [(1, "a\r"), (4, "bc"), (5, "d")];
-    for size in [1usize, 2, 3, 5, 100] {
-        let (batch, line) = framed(rt.alloc(), b"a\r\n\n \t\r\nbc\nd", size)?;
-        assert!(rt; has_lines(&batch, &want) && line == 6, "at {size}");
-    }
-    Ok(())
-}
-
-/// Whether a batch has no line but this fault.
-fn is_fault_alone(batch: &Batch<'_>, fault: FrameFault) -> bool {
-    batch.lines.is_empty() && batch.fault == Some(fault) && fault.line() == 2
-}
-
-/// Whether a framer gives the fault of a line of this many bytes again and again, and no more lines.
-fn stays_at_fault(alloc: Global, size: usize) -> Result<bool, AllocError> {
-    let fault = FrameFault::LineTooLong(2);
-    let long = vec![in alloc; b'x'; size]?;
-    let mut framer = Framer::new(alloc);
-    let first = framer.feed(b"one\n")?;
-    let at_fault = framer.feed(&long)?;
-    let after = framer.feed(b"\nmore\n")?;
-    let line = framer.line();
-    let last = framer.finish()?;
-    Ok(
-        has_lines(&first, &[(1, "one")])
-            && is_fault_alone(&at_fault, fault)
-            && is_fault_alone(&after, fault)
-            && is_fault_alone(&last, fault)
-            && line == 2
-            && framer.line() == 2
-            && framer.is_finished(),
-    )
-}
-
-#[test]
-fn a_framer_stays_at_its_fault(rt: HostRuntime) -> Result<(), Fail> {
-    assert!(rt; stays_at_fault(rt.alloc(), LINE_BYTE_LIMIT + 1)?);
-    Ok(())
-}
-
-#[test]
-fn a_line_feed_is_found(rt: HostRuntime) {
-    assert!(rt; has_line_feed(b"a\n") && !has_line_feed(b"a\r"));
-    assert!(rt; FrameFault::StreamTooLong(7).line() == 7);
 }

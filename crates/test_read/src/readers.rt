@@ -1,12 +1,12 @@
-//! Traces from pieces: `TraceReader::feed`, `end` and `fail`, and `Core::step`.
+//! Traces from pieces: `TraceReader::feed` and `end`, and `Core::step`, again after a refusal.
 ghost use Rattle.std.specs.Prelude.{◌≡◌, ◌<◌, length};
 
-use super::samples::{DOCUMENT, spec};
-use pd_events::{StreamFault, StreamKind, StreamState, TraceReader};
+use super::samples::DOCUMENT;
+use pd_events::{StreamFault, StreamState, TraceReader};
 use pd_gather::{Core, Input};
 use pd_spec::Spec;
 use read_traces::{Kind, Trace};
-use std::alloc::{AllocError, Global};
+use std::alloc::Global;
 use std::test::Fail;
 
 /// A stream of `b` in three pieces, whose end line has no line feed.
@@ -133,60 +133,5 @@ fn traces_come_again(rt: HostRuntime) -> Result<(), Fail> {
     if again {
         println!(rt; "a call was made again")?;
     }
-    Ok(())
-}
-
-/// A stream of `b` with blank lines and CRs.
-const STREAM: &[u8] =
-    b"\r\n{\"process\":\"b\"}\r\n\r\n{\"set\":{\"z\":-7}}\r\n{\"send\":\"m\"}\r\n{\"end\":true}\n what follows";
-
-/// What a stream gives that comes in pieces of this size.
-fn read_in_pieces(
-    alloc: Global,
-    spec: &Spec,
-    stream: &[u8],
-    size: usize,
-) -> Result<Result<Trace, StreamFault>, AllocError>
-    requires { 0 < size }
-{
-    let mut reader = TraceReader::new(alloc, spec);
-    for piece in stream.chunks(size) {
-        reader.feed(piece)?;
-    }
-    reader.end()?;
-    Ok(reader.outcome())
-}
-
-#[test]
-fn traces_come_in_pieces_of_any_size(rt: HostRuntime) -> Result<(), Fail> {
-    let spec = spec(rt.alloc())?;
-    for size in [1usize, 2, 7, 10, 1000] {
-        let reading = read_in_pieces(rt.alloc(), &spec, STREAM, size)?;
-        assert!(rt; is_of_pieces(&reading), "at {size}");
-    }
-    Ok(())
-}
-
-/// Whether a reader says where it stands, and closes after a failed read.
-fn is_shown(alloc: Global, spec: &Spec) -> Result<bool, AllocError> {
-    let mut reader = TraceReader::new(alloc, spec);
-    let fresh = stands(&reader, (StreamState::Fresh, None, 0));
-    reader.feed(b"{\"process\":\"b\"}\n{}\n{}")?;
-    let joined = stands(&reader, (StreamState::Joined, Some(1), 1)) && !reader.is_closed();
-    reader.fail();
-    let failed = stands(&reader, (StreamState::Faulted, Some(1), 1)) && reader.is_closed();
-    reader.feed(b"\n{\"end\":true}\n")?;
-    let fault = reader.outcome().err();
-    let want = StreamFault {
-        line: 3,
-        kind: StreamKind::Read,
-    };
-    Ok(fresh && joined && failed && fault == Some(want))
-}
-
-#[test]
-fn a_reader_says_where_it_stands(rt: HostRuntime) -> Result<(), Fail> {
-    let spec = spec(rt.alloc())?;
-    assert!(rt; is_shown(rt.alloc(), &spec)?);
     Ok(())
 }

@@ -1,8 +1,0 @@
--- What the loops of `framed` keep.
-use Rattle.std.proofs.Common.{◌≡◌, false}
-use Rattle.test_read.proofs.framers.framed.Given as goal
-
-abbrev pub invariant-loop-piece : goal.invariant-loop-piece
-invariant-loop-piece l =
-    (goal.iterator-loop-piece).can_next l.piece-iterator × (goal.iterator-loop-piece).is_finite l.piece-iterator
-    × (l.framer.finished ≡ false)
