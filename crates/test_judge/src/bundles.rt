@@ -18,25 +18,7 @@ struct Case {
     report: &'static str,
 }
 
-static CASES: [Case; 7] = [
-    Case {
-        name: "one process",
-        bundle: "{\"processes\":[{\"name\":\"a\",\"vars\":{\"x\":0}}],\
-\"predicates\":[{\"name\":\"up\",\"text\":\"a.x > 0\"}]}\n\
----\n{\"process\":\"a\"}\n{}\n{\"set\":{\"x\":1}}\n{\"end\":true}\n",
-        end: "judged",
-        report: "session 1 processes 2 events 0 messages\nup possibly yes 2\nup definitely yes 2\n",
-    },
-    Case {
-        name: "a state in one cut alone",
-        bundle: "{\"processes\":[{\"name\":\"a\",\"vars\":{\"x\":0}},{\"name\":\"b\",\"vars\":{\"y\":0}}],\
-\"predicates\":[{\"name\":\"both\",\"text\":\"a.x == 1 and b.y == 1\"}]}\n\
----\n{\"process\":\"a\"}\n{\"set\":{\"x\":1}}\n{\"set\":{\"x\":0}}\n{\"end\":true}\n\
----\n{\"process\":\"b\"}\n{\"set\":{\"y\":1}}\n{\"set\":{\"y\":0}}\n{\"end\":true}\n",
-        end: "judged",
-        report: "session 2 processes 4 events 0 messages\n\
-both possibly yes 1,1\nboth definitely no b,b,a,a\n",
-    },
+static CASES: [Case; 2] = [
     Case {
         name: "lines that end with CR and LF, and none at the end",
         bundle: "{\"processes\":[{\"name\":\"a\",\"vars\":{\"x\":0}},{\"name\":\"b\",\"vars\":{\"y\":0}}],\r\n\
@@ -48,32 +30,11 @@ both possibly yes 1,1\nboth definitely no b,b,a,a\n",
 ahead possibly yes 1,0\nahead definitely yes 1\n",
     },
     Case {
-        name: "nothing at all",
-        bundle: "",
-        end: "refused",
-        report: "refused spec json\n",
-    },
-    Case {
         name: "no stream",
         bundle: "{\"processes\":[{\"name\":\"a\",\"vars\":{\"x\":0}}],\
 \"predicates\":[{\"name\":\"up\",\"text\":\"a.x > 0\"}]}\n",
         end: "refused",
         report: "refused absent a\n",
-    },
-    Case {
-        name: "a refused document and its streams",
-        bundle: "{\"processes\":[]}\n---\n{\"process\":\"a\"}\n---\n---",
-        end: "refused",
-        report: "refused spec shape\n",
-    },
-    Case {
-        name: "thirty-three streams",
-        bundle: "{\"processes\":[{\"name\":\"a\",\"vars\":{\"x\":0}}],\
-\"predicates\":[{\"name\":\"up\",\"text\":\"a.x > 0\"}]}\n\
----\n---\n---\n---\n---\n---\n---\n---\n---\n---\n---\n---\n---\n---\n---\n---\n---\n---\n---\n---\n---\n---\n\
----\n---\n---\n---\n---\n---\n---\n---\n---\n---\n---\n",
-        end: "refused",
-        report: "refused streams\n",
     },
 ];
 

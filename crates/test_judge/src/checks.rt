@@ -1,7 +1,7 @@
 //! Checks whose streams can't be read, and whose findings can't be written.
 use super::ends::{checked, due_word};
 use super::readers::{Reader, Signs, both};
-use super::sessions::{DOCUMENT, OF_A, OF_B, REPORT};
+use super::sessions::{DOCUMENT, OF_A, OF_B};
 use super::writers::{Full, ROOM, Writer};
 use std::alloc::Global;
 use std::io::ErrorKind;
@@ -11,8 +11,6 @@ use std::test::Fail;
 use std::thread::Threads;
 
 const EMPTY_A: &str = "{\"process\":\"a\"}\n{\"end\":true}\n";
-
-const EMPTY_B: &str = "{\"process\":\"b\"}\n{\"end\":true}\n";
 
 /// Two streams whose messages make a cycle.
 const CYCLE_A: &str = "{\"process\":\"a\"}\n{\"recv\":\"k\"}\n{\"send\":\"m\"}\n{\"end\":true}\n";
@@ -31,16 +29,7 @@ struct Case {
     finding: &'static str,
 }
 
-static CASES: [Case; 9] = [
-    Case {
-        name: "the session's own report",
-        document: DOCUMENT,
-        first: OF_A,
-        second: OF_B,
-        report: REPORT,
-        end: "good",
-        finding: "session good\nboth possibly good\nboth definitely good\n",
-    },
+static CASES: [Case; 2] = [
     Case {
         name: "another cut",
         document: DOCUMENT,
@@ -51,65 +40,11 @@ static CASES: [Case; 9] = [
         finding: "session good\nboth possibly bad\nboth definitely good\n",
     },
     Case {
-        name: "evidence of nothing",
-        document: DOCUMENT,
-        first: EMPTY_A,
-        second: EMPTY_B,
-        report: "session 2 processes 0 events 0 messages\nboth possibly no\nboth definitely no -\n",
-        end: "good",
-        finding: "session good\nboth possibly unchecked\nboth definitely good\n",
-    },
-    Case {
         name: "the session's own cycle",
         document: DOCUMENT,
         first: CYCLE_A,
         second: CYCLE_B,
         report: "refused cycle a#1,b#1\n",
-        end: "good",
-        finding: "refused good\n",
-    },
-    Case {
-        name: "the cycle from another place",
-        document: DOCUMENT,
-        first: CYCLE_A,
-        second: CYCLE_B,
-        report: "refused cycle b#1,a#1\n",
-        end: "bad",
-        finding: "refused bad\n",
-    },
-    Case {
-        name: "a report of a session with a cycle",
-        document: DOCUMENT,
-        first: CYCLE_A,
-        second: CYCLE_B,
-        report: "session 2 processes 4 events 2 messages\nboth possibly no\nboth definitely yes 0\n",
-        end: "bad",
-        finding: "refused bad\n",
-    },
-    Case {
-        name: "a refusal of a session that is judged",
-        document: DOCUMENT,
-        first: OF_A,
-        second: OF_B,
-        report: "refused streams\n",
-        end: "bad",
-        finding: "refused bad\n",
-    },
-    Case {
-        name: "an empty report",
-        document: DOCUMENT,
-        first: OF_A,
-        second: OF_B,
-        report: "",
-        end: "bad",
-        finding: "report line 1\n",
-    },
-    Case {
-        name: "the refusal of a document that is none",
-        document: "",
-        first: OF_A,
-        second: OF_B,
-        report: "refused spec json\n",
         end: "good",
         finding: "refused good\n",
     },

@@ -35,7 +35,7 @@ struct Case {
     runs: u64,
 }
 
-static CASES: [Case; 7] = [
+static CASES: [Case; 4] = [
     Case {
         name: "a document that is none",
         document: "",
@@ -43,14 +43,6 @@ static CASES: [Case; 7] = [
         end: "refused",
         report: "refused spec json\n",
         runs: 0,
-    },
-    Case {
-        name: "no stream",
-        document: DOCUMENT,
-        streams: 0,
-        end: "refused",
-        report: "refused absent a\n",
-        runs: 1,
     },
     Case {
         name: "one stream",
@@ -66,22 +58,6 @@ static CASES: [Case; 7] = [
         streams: 2,
         end: "judged",
         report: REPORT,
-        runs: 1,
-    },
-    Case {
-        name: "a process twice",
-        document: DOCUMENT,
-        streams: 3,
-        end: "refused",
-        report: "refused stream 3 line 1 taken\n",
-        runs: 1,
-    },
-    Case {
-        name: "as many streams as may be",
-        document: DOCUMENT,
-        streams: 32,
-        end: "refused",
-        report: "refused stream 3 line 1 taken\n",
         runs: 1,
     },
     Case {

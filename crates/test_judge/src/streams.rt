@@ -78,27 +78,13 @@ struct Failing {
 
 /// A failed read is a fault of its stream, in the line in which the next byte would have stood. After the end line the
 /// reader isn't asked again, so nothing fails.
-static FAILING: [Failing; 6] = [
+static FAILING: [Failing; 3] = [
     Failing {
         text: OF_B,
         most: 1,
         calls: 0,
         end: "refused",
         report: "refused stream 2 line 1 read\n",
-    },
-    Failing {
-        text: OF_B,
-        most: 1,
-        calls: 16,
-        end: "refused",
-        report: "refused stream 2 line 2 read\n",
-    },
-    Failing {
-        text: OF_B,
-        most: 1,
-        calls: 22,
-        end: "refused",
-        report: "refused stream 2 line 2 read\n",
     },
     Failing {
         text: OF_B,
@@ -113,13 +99,6 @@ static FAILING: [Failing; 6] = [
         calls: OF_B.len(),
         end: "judged",
         report: REPORT,
-    },
-    Failing {
-        text: "{\"process\":\"b\"}\n",
-        most: ROOM,
-        calls: 1,
-        end: "refused",
-        report: "refused stream 2 line 2 read\n",
     },
 ];
 
