@@ -1,6 +1,6 @@
 //! How many levels are held at once for a predicate, exactly: those that are kept, one in each gap, the two whole ones
 //! or lists at which the walk stands, and those that are made again on the way back.
-use crate::seams::ONE;
+use crate::asked::{Question, is_right};
 use pd_clock::Computation;
 use pd_definitely::definitely_counted;
 use pd_expand::Crew;
@@ -10,6 +10,7 @@ use pd_spec::Spec;
 use std::alloc::{AllocError, Global};
 use std::sync::Wait;
 use std::thread::Threads;
+use test_samples::{THREE, THREE_STREAMS};
 use walk::answer_within;
 
 /// The bound on how many cuts a level may have, which none of these levels has.
@@ -18,20 +19,12 @@ const WIDTH: u64 = 10_000;
 /// For each predicate of `THREE`, whose levels are kept 6 apart, how many levels are held if the walk goes up the whole
 /// levels, and if it goes on by lists as soon as Possibly is answered. For the fourth one levels 4, 10, 16, 22 and 28
 /// are kept, with two whole levels, or with the last whole one and two lists.
-pub(crate) const THREE_HELD: [[u64; 2]; 7] = [
-    [2, 2],
-    [1, 1],
-    [2, 2],
-    [7, 8],
-    [6, 7],
-    [4, 5],
-    [2, 2],
-];
+const THREE_HELD: [[u64; 2]; 7] = [[2, 2], [1, 1], [2, 2], [7, 8], [6, 7], [4, 5], [2, 2]];
 
 /// Sixteen processes with an event each. The predicate holds at the cuts of level 6 without the event of `a`, so the
 /// levels above it have many cuts without it that are no avoiding ones: the way back gives up its search between levels
 /// 16 and 11.
-pub(crate) const WALL: &str = r#"{
+const WALL: &str = r#"{
   "processes":[
     {"name":"a","vars":{"n":0}},{"name":"b","vars":{"n":0}},{"name":"c","vars":{"n":0}},{"name":"d","vars":{"n":0}},
     {"name":"e","vars":{"n":0}},{"name":"f","vars":{"n":0}},{"name":"g","vars":{"n":0}},{"name":"h","vars":{"n":0}},
@@ -43,8 +36,13 @@ pub(crate) const WALL: &str = r#"{
   ]
 }"#;
 
+/// A process with one event.
+const ONE: &str = r#"{"set":{"n":1}}
+{"end":true}
+"#;
+
 /// The streams of these sixteen processes.
-pub(crate) const WALL_STREAMS: [[&str; 2]; 16] = [
+const WALL_STREAMS: [[&str; 2]; 16] = [
     ["{\"process\":\"a\"}\n", ONE],
     ["{\"process\":\"b\"}\n", ONE],
     ["{\"process\":\"c\"}\n", ONE],
@@ -65,7 +63,7 @@ pub(crate) const WALL_STREAMS: [[&str; 2]; 16] = [
 
 /// The same for its predicate. Of levels 6, 11 and 16, which are kept, the last one is let go of before levels 12 to 15
 /// are made again, with the last whole level beside them.
-pub(crate) const WALL_HELD: [[u64; 2]; 1] = [[7, 7]];
+const WALL_HELD: [[u64; 2]; 1] = [[7, 7]];
 
 /// How many levels are held at once for the predicate, if the walk goes up the whole levels, and if it goes on by lists
 /// as soon as Possibly is answered.
@@ -99,4 +97,14 @@ pub(crate) fn are_held<T: Threads + Wait + Sync>(
         right = right && matches!(held.get(at), Some(known) if *known == found);
     }
     Ok(right)
+}
+
+#[test]
+fn as_many_levels_are_held_as_are_known(rt: HostRuntime) {
+    let three = Question::Held(&THREE_HELD);
+    let right = is_right(&rt, rt.alloc(), THREE, &THREE_STREAMS, three, &mut false);
+    assert!(rt; right == Some(true));
+    let wall = Question::Held(&WALL_HELD);
+    let right = is_right(&rt, rt.alloc(), WALL, &WALL_STREAMS, wall, &mut false);
+    assert!(rt; right == Some(true));
 }

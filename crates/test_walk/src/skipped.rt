@@ -1,9 +1,10 @@
-//! Runs that are skipped: some are, for each predicate.
+//! Runs that are skipped: some are, for each predicate. No answer shows it.
 ghost use Rattle.walk_keys.specs.Pairs.{single_limit};
 ghost use Rattle.walk_marks.specs.SkippedRuns.{AreSkipped};
-ghost use Rattle.std.specs.Prelude.{◌<◌, ◌≤◌, length};
+ghost use Rattle.walk_runs.specs.Levels.{IsWholeLevel};
+ghost use Rattle.std.specs.Prelude.{◌<◌, ◌≤◌, IfOk, length};
 
-use crate::runs::level_after;
+use crate::asked::{Question, is_right};
 use pd_clock::Computation;
 use pd_spec::Spec;
 use std::alloc::{AllocError, Global};
@@ -15,7 +16,7 @@ use walk_runs::{Steps, Whole};
 use walk_tables::Compiled;
 
 /// `cases/walks.toml` has the same session, with the answers.
-pub(crate) const DOCUMENT: &str = r#"{
+const DOCUMENT: &str = r#"{
   "processes": [
     {"name": "a", "vars": {"n": 0}},
     {"name": "b", "vars": {"n": 0}},
@@ -30,7 +31,7 @@ pub(crate) const DOCUMENT: &str = r#"{
 }"#;
 
 /// Four processes, of which one sends to each of two others.
-pub(crate) const STREAMS: [[&str; 2]; 4] = [
+const STREAMS: [[&str; 2]; 4] = [
     [
         A,
         "{\"set\":{\"n\":1}}\n{\"recv\":\"u\",\"set\":{\"n\":3}}\n{\"set\":{\"n\":0}}\n{\"end\":true}\n",
@@ -92,6 +93,21 @@ fn compiled<'a, 'b>(
     Ok(tests)
 }
 
+/// The level after this one, if this one's number is small.
+fn level_after(
+    alloc: Global,
+    steps: &Steps<'_, '_>,
+    level: &Whole<u128>,
+) -> Result<Whole<u128>, AllocError>
+    requires { IsWholeLevel steps.now level.now }
+    ensures { IfOk result (λ next. IsWholeLevel steps.now next) }
+{
+    if level.number() > 1_000 {
+        return Err(AllocError);
+    }
+    Whole::next(alloc, steps, level)
+}
+
 /// At how many levels of a walk up the predicate with this index has a run that is skipped.
 fn skipping_levels<T: Threads + Sync>(
     rt: &T,
@@ -145,4 +161,17 @@ pub(crate) fn are_skipped<T: Threads + Sync>(
         }
     }
     Some(tests.len() == 3)
+}
+
+#[test]
+fn runs_are_skipped(rt: HostRuntime) {
+    let right = is_right(
+        &rt,
+        rt.alloc(),
+        DOCUMENT,
+        &STREAMS,
+        Question::Skips,
+        &mut false,
+    );
+    assert!(rt; right == Some(true));
 }
