@@ -7,7 +7,8 @@ use Rattle.app_arguments.specs.Places.{Place}
 use Rattle.def_judgement.specs.Writes.{IsJudged, IsRefused, Source, WritesTruthOfBundle}
 use Rattle.def_judgement.proofs.TextsOwed.{truth_of_bundle_text}
 use Rattle.app_arguments.specs.Arguments.{AsksFor, of_input}
-use Rattle.pd_cli.specs.Runs.{RunsAsAsked}
+use Rattle.pd_cli.specs.Runs.{RunsAs}
+use Rattle.pd_cli.proofs.OneRule.{as_one_rule}
 use Rattle.app_arguments.proofs.Parsed.{nothing_is_no_command, nothing_is_taken}
 
 none_asks : AsksFor [] JudgeInput
@@ -22,9 +23,10 @@ pub as_asked_by_none : (arguments : List Text) (input : Source) (files : List �
     (connections : Place → Source → Type 0) (network_serves : Bool) (status : ℕ)
     (old new errors_old errors_new : Option (List ℕ)) → arguments ≡ []
     → Ends (λ ending. JudgementLeaves input ending old new) status errors_old errors_new
-    → RunsAsAsked arguments input files connections network_serves status old new errors_old errors_new
+    → RunsAs (AsksFor arguments) input files connections network_serves status old new errors_old errors_new
 as_asked_by_none arguments input files connections network_serves status old new errors_old errors_new none h =
-    inr (JudgeInput, subst (λ (l : List Text). AsksFor l JudgeInput) (sym none) none_asks, h)
+    as_one_rule input files connections network_serves status old new errors_old errors_new arguments
+    (inr (JudgeInput, subst (λ (l : List Text). AsksFor l JudgeInput) (sym none) none_asks, h))
 
 truth_of_end : (input : Source) (ending : Ending) (old new : Option (List ℕ))
     → status_of ending ≤ 1 → JudgementLeaves input ending old new → WritesTruthOfBundle input

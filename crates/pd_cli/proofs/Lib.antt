@@ -10,6 +10,7 @@ mod FilesChosen
 mod FilesDrawn
 mod FilesAgain
 mod NotesRead
+mod OneRule
 mod ParserEnds
 mod UnreadDrawings
 mod WholeStreams

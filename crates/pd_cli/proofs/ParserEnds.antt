@@ -9,7 +9,7 @@ use Rattle.app_arguments.specs.Places.{Place}
 use Rattle.def_judgement.specs.Writes.{Source}
 use Rattle.app_arguments.specs.Arguments.{IsShownKind}
 use Rattle.app_arguments.specs.Views.{IsErrorOf}
-use Rattle.pd_cli.specs.Runs.{RunsAsAsked}
+use Rattle.pd_cli.specs.RunCases.{RunsAsAsked}
 
 data KindCase (k : ErrorKind) : Type 0 where
   memory : k ≡ kind.OutOfMemory → KindCase k

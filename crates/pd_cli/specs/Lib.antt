@@ -3,3 +3,4 @@ pub mod ShownDrawings
 pub mod Explorations
 pub mod Explained
 pub mod Runs
+pub mod RunCases

@@ -1,13 +1,15 @@
 //! One run of the program.
 ghost use Rattle.app_arguments.specs.Views.{place_view};
 ghost use Rattle.app_serve.specs.Kept.{AsksForFiles};
+ghost use Rattle.app_arguments.specs.Arguments.{AsksFor};
 ghost use Rattle.pd_cli.specs.Drawings.{EndsDrawn};
 ghost use Rattle.pd_cli.specs.Explained.{Explained};
 ghost use Rattle.pd_cli.specs.Explorations.{ExplorationLeaves};
-ghost use Rattle.pd_cli.specs.Runs.{RunsAsAsked};
+ghost use Rattle.pd_cli.specs.RunCases.{RunsAsAsked};
+ghost use Rattle.pd_cli.specs.Runs.{RunsAs};
 ghost use Rattle.out_picture.specs.Scopes.{scope_view};
 ghost use Rattle.app_arguments.specs.ConditionViews.{fail_on_view};
-ghost use Rattle.app_arguments.specs.Statuses.{Ends, JudgementLeaves, LeavesOf, MayBeUnread, OfConnections, OfFinding, OfNamed, ServiceMayFail, SessionLeaves, UnreadClaim, sources_of};
+ghost use Rattle.app_arguments.specs.Statuses.{Ends, JudgeInput, JudgementLeaves, LeavesOf, MayBeUnread, OfConnections, OfFinding, OfNamed, ServiceMayFail, SessionLeaves, UnreadClaim, sources_of};
 ghost use Rattle.app_arguments.specs.Views.{format_view, names_view, page_view, session_view};
 ghost use Rattle.app_host.specs.Formats.{OfFormat};
 ghost use Rattle.app_infer.specs.Inferences.{EndsInferred};
@@ -301,14 +303,14 @@ pub fn run<
     // Each file, each connection and the input are a source of their own: what is known to be given to its end is
     // judged whole, and of one that is known to fail all that it gave before.
     // If explanations are wanted, any text may stand before that on the errors.
-    ensures ends { Explained explain (λ start. RunsAsAsked
-        (drop 1 (map (λ argument. argument.bytes.items) arguments.items))
+    ensures ends { Explained explain (λ start. RunsAs
+        (AsksFor (drop 1 (map (λ argument. argument.bytes.items) arguments.items)))
         (I.left input) (F.file_of files.now) (N.may_give network.now) N.never_fails result
         (O.contents output.old) (O.contents output.new) start (E.contents errors.new)) (E.contents errors.old) }
     // With no further argument that is the report of the bundle on the input.
-    ensures bundle { vec_len arguments ≤ 1 → Explained explain (λ start. Ends (λ ending.
-        JudgementLeaves (I.left input) ending (O.contents output.old) (O.contents output.new)) result
-        start (E.contents errors.new)) (E.contents errors.old) }
+    ensures bundle { vec_len arguments ≤ 1 → Explained explain (λ start. RunsAs (λ request. request ≡ JudgeInput)
+        (I.left input) (F.file_of files.now) (N.may_give network.now) N.never_fails result
+        (O.contents output.old) (O.contents output.new) start (E.contents errors.new)) (E.contents errors.old) }
     // If the input holds a well-formed session, status 0 or 1 is 0; and with no level over the width, that report says
     // the truth of each predicate.
     ensures headline { vec_len arguments ≤ 1 → result ≤ 1 → WritesTruthOfBundle (I.left input) (result ≡ 0)
