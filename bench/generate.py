@@ -45,12 +45,14 @@ everyone  16 processes that send a message to each other one, and then receive w
           same comparison, which the first wide level leaves unknown
 locals    the same lines with each send and receipt replaced by a local event of the same length, for comparison with
           messages
+shape     the session of the shape of `shapes.py` that the next word names, as "shape barriers 8"
 """
 import json
 import os
 import random
 import sys
 
+from shapes import SHAPES
 
 # Small forms have fewer rounds and events, so that a profiler that is fifty times slower gets through in a second.
 SMALL = "--small" in sys.argv
@@ -411,8 +413,12 @@ def locals_alone():
     talkers(local)
 
 
+def shape():
+    bundle(*SHAPES[sys.argv[2]](size, given_number(8)).parts())
+
+
 {"lattice": lattice, "several": several, "terms": terms, "streams": streams, "messages": messages,
  "locals": locals_alone, "avoiding": avoiding, "sums": open_sums, "heavy": heavy_sums, "marked": marked_sums,
  "many": many_sums, "uneven": uneven_sums, "wide": wide, "lists": listed_sums, "leaders": leaders,
  "followers": followers, "pairs": pairs, "boxes": boxes, "grid": grid, "products": products, "path": path,
- "narrow": narrow, "ors": ors, "hub": hub, "ring": ring, "everyone": everyone}[sys.argv[1]]()
+ "narrow": narrow, "ors": ors, "hub": hub, "ring": ring, "everyone": everyone, "shape": shape}[sys.argv[1]]()
