@@ -1,5 +1,4 @@
 -- The modules of lemmas of this crate.
-mod Parts
 mod StreamsRead
 mod Unwritten
 mod Written

@@ -1,7 +1,7 @@
 -- What was read of the files of streams.
 use Rattle.std.proofs.Common.{◌≡◌, ◌≢◌, ◌+◌, ◌<◌, ◌≤◌, ℕ, true, List, [], ◌∷◌, ◌++◌, length, length-take, map, take, refl, sym, ap, subst, ◌∙◌, lt-ltb, arith, None, Some, Option, Ok, Err, inl, inr}
 use Rattle.std.specs.Global.{Global}
-use Rattle.std.specs.Prelude.{◌⊎◌, IfOk, IfSome, Result, Vec, vec_len}
+use Rattle.std.specs.Prelude.{◌⊎◌, codes, IfOk, IfSome, Result, Vec, vec_len}
 use Rattle.std.specs.List.{AllZip, slice_index_or}
 use Rattle.std.proofs.lemmas.Bool.{cases_lt}
 use Rattle.std.proofs.lemmas.List.{get_or-map, length-map, map_more, take-map, take_all}
@@ -10,19 +10,23 @@ use Rattle.app_host.specs.FileSources.{Knows}
 use Rattle.app_host.proofs.FilesRead.{of_known_fate, zip_on}
 use Rattle.def_format.specs.Limits.{stream_byte_limit}
 use Rattle.def_judgement.specs.Writes.{Source}
-use Rattle.judge_infer.specs.Inferred.{Fault, Process, StreamTooLong, fault_of_whole, said}
+use Rattle.judge_infer.specs.Inferred.{stream_process, worded}
+use Rattle.judge_infer.specs.Streams.{Found, Process, process_of_stream}
+use Rattle.judge_infer.proofs.StreamSteps.{stream_same}
 use Rattle.judge_session.specs.declared.fault.EngineFault.{EngineFault}
-use Rattle.app_infer.specs.Inferences.{IsRefusedFor, IsSaidIn, IsStreamOf, of_stream, refused_line}
+use Rattle.app_infer.specs.Inferences.{IsRefusedFor, IsStreamOf, of_stream, refused_line}
+use Rattle.app_infer.specs.Outcomes.{IsSaidIn}
 
 -- all streams that are too long say the same
-long_said : (bytes : List ℕ) → stream_byte_limit < length bytes → said bytes ≡ Err (fault_of_whole StreamTooLong)
-unfolding said
+long_said : (bytes : List ℕ) → stream_byte_limit < length bytes
+    → process_of_stream bytes ≡ Err (codes ": it has more than 16,777,216 bytes")
+unfolding process_of_stream
 long_said bytes long = rw (lt-ltb stream_byte_limit (length bytes) long) refl
 
 -- of a source that has all these bytes left
 known_said : (file left : Source) (known read : List ℕ) → file.bytes ≡ Some known → Knows file left
     → read ≡ take (stream_byte_limit + 1) known
-    → (length read ≤ stream_byte_limit → left.fails ≢ Some true) → IsStreamOf file (said read)
+    → (length read ≤ stream_byte_limit → left.fails ≢ Some true) → IsStreamOf file (process_of_stream read)
 known_said file left known read is knows first end = go (cases_lt stream_byte_limit (length known))
   where
     count : length read ≡ length (take (stream_byte_limit + 1) known)
@@ -31,7 +35,8 @@ known_said file left known read is knows first end = go (cases_lt stream_byte_li
     all : IfSome file.bytes (λ bytes. known ≡ bytes)
     all = subst (λ (b : Option (List ℕ)). IfSome b (λ bytes. known ≡ bytes)) (sym is) refl
 
-    go : (stream_byte_limit < length known) ⊎ (length known ≤ stream_byte_limit) → IsStreamOf file (said read)
+    go : (stream_byte_limit < length known) ⊎ (length known ≤ stream_byte_limit)
+        → IsStreamOf file (process_of_stream read)
     go (inl long) = record {
       bytes = known;
       all = all;
@@ -46,12 +51,12 @@ known_said file left known read is knows first end = go (cases_lt stream_byte_li
           all = all;
           ended = λ fails. absurd (end (subst (λ (l : List ℕ). length l ≤ stream_byte_limit) (sym same) short)
               (of_known_fate file left true knows fails));
-          says = ap said (sym same);
+          says = ap process_of_stream (sym same);
         }
 
 -- of a source of whose bytes nothing is known
 unknown_said : (file left : Source) (read : List ℕ) → file.bytes ≡ None → Knows file left
-    → (length read ≤ stream_byte_limit → left.fails ≢ Some true) → IsStreamOf file (said read)
+    → (length read ≤ stream_byte_limit → left.fails ≢ Some true) → IsStreamOf file (process_of_stream read)
 unknown_said file left read is knows end = record {
   bytes = read;
   all = subst (λ (b : Option (List ℕ)). IfSome b (λ bytes. read ≡ bytes)) (sym is) tt;
@@ -67,10 +72,10 @@ unknown_said file left read is knows end = record {
 -- the first bytes of a stream, up to one more than its limit, say what all of them do
 pub read_said : (file left : Source) (read : List ℕ) → Knows file left
     → IfSome left.bytes (λ input. read ≡ take (stream_byte_limit + 1) input)
-    → (length read ≤ stream_byte_limit → left.fails ≢ Some true) → IsStreamOf file (said read)
+    → (length read ≤ stream_byte_limit → left.fails ≢ Some true) → IsStreamOf file (process_of_stream read)
 read_said file left read knows prefix end = go file.bytes refl
   where
-    go : (b : Option (List ℕ)) → file.bytes ≡ b → IsStreamOf file (said read)
+    go : (b : Option (List ℕ)) → file.bytes ≡ b → IsStreamOf file (process_of_stream read)
     go None is = unknown_said file left read is knows end
     go (Some known) is =
         let left_is : left.bytes ≡ Some known =
@@ -80,7 +85,7 @@ read_said file left read knows prefix end = go file.bytes refl
         end
 
 -- what it says is this
-pub says : (source : Source) (due is : Result Process Fault) → IsStreamOf source due → due ≡ is → IsStreamOf source is
+pub says : (source : Source) (due is : Found) → IsStreamOf source due → due ≡ is → IsStreamOf source is
 says source due is of same = record { bytes = of.bytes; all = of.all; ended = of.ended; says = of.says ∙ same }
 
 -- one stream more
@@ -96,21 +101,23 @@ said_on files name_of names processes more i d lt all one =
 
 -- a stream is refused, and those before it are not
 pub refused_at : {N : Type 0} (files : List ℕ → File) (name_of : N → List ℕ) (names : List N)
-    (processes : List Process) (i : ℕ) (d : N) (fault : Fault) → i < length names
+    (processes : List Process) (i : ℕ) (d : N) (why : List ℕ) → i < length names
     → AllZip (IsSaidIn files) (map name_of (take i names)) processes
-    → IsStreamOf (files (name_of (slice_index_or names i d))).source (Err fault)
-    → IsRefusedFor files (map name_of names) (refused_line (slice_index_or (map name_of names) i []) fault)
-refused_at files name_of names processes i d fault lt all one =
+    → IsStreamOf (files (name_of (slice_index_or names i d))).source (Err why)
+    → IsRefusedFor files (map name_of names) (refused_line (slice_index_or (map name_of names) i [] ++ why))
+refused_at files name_of names processes i d why lt all one =
     let here : slice_index_or (map name_of names) i [] ≡ name_of (slice_index_or names i d) =
     get_or-map name_of names i d [] lt in
-    of_stream i processes fault (omega (arith, lt, length-map names name_of))
+    of_stream i processes why (omega (arith, lt, length-map names name_of))
     (subst (λ xs. AllZip (IsSaidIn files) xs processes) (sym (take-map name_of i names)) all)
-    (subst (λ name. IsStreamOf (files name).source (Err fault)) (sym here) one) refl
+    (subst (λ name. IsStreamOf (files name).source (Err why)) (sym here) one) refl
 
 pub read_result : (file left : Source) (result : Result (Vec ℕ Global) EngineFault) → Knows file left
     → IfOk result (λ bytes. IfSome left.bytes (λ input. bytes.items ≡ take (stream_byte_limit + 1) input))
     → IfOk result (λ bytes. vec_len bytes ≤ stream_byte_limit → left.fails ≢ Some true)
-    → IfOk result (λ bytes. IsStreamOf file (said bytes.items))
+    → IfOk result (λ bytes. IsStreamOf file (worded (stream_process bytes.items)))
 read_result file left (Ok bytes) knows prefix end =
-    read_said file left bytes.items knows prefix (λ short. end (omega (arith, bytes.ok.0, short)))
+    says file (process_of_stream bytes.items) (worded (stream_process bytes.items))
+    (read_said file left bytes.items knows prefix (λ short. end (omega (arith, bytes.ok.0, short))))
+    (stream_same bytes.items)
 read_result file left (Err fault) knows prefix end = tt

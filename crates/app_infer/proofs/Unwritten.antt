@@ -5,12 +5,14 @@ use Rattle.std.specs.Prelude.{⊤, All, IfOk, IsOkUnless, MatchOption, Result}
 use Rattle.std.specs.List.{AllZip}
 use Rattle.app_arguments.specs.Statuses.{File}
 use Rattle.app_host.proofs.UnreadFiles.{keeps_same}
-use Rattle.judge_infer.specs.FirstDocuments.{document_of}
-use Rattle.judge_infer.specs.FirstDocuments as documents
-use Rattle.judge_infer.specs.Inferred.{Process}
+use Rattle.judge_infer.specs.DocumentParts.{document_of, fault_words, worded_document}
+use Rattle.judge_infer.specs.DocumentParts as documents
+use Rattle.judge_infer.specs.Streams.{Process}
+use Rattle.judge_infer.proofs.DocumentSteps.{document_same}
 use Rattle.judge_session.specs.declared.fault.EngineFault.{EngineFault}
 use Rattle.judge_session.specs.declared.fault.EngineFault.TheVariants.{BundleLong, Memory, Read, Write}
-use Rattle.app_infer.specs.Inferences.{InferLeaves, IsRefusedFor, IsSaidIn, fault_line, of_all, refused_notice}
+use Rattle.app_infer.specs.Inferences.{InferLeaves, IsRefusedFor, of_all, refused_line}
+use Rattle.app_infer.specs.Outcomes.{IsSaidIn, refused_notice}
 use Rattle.app_infer.specs.declared.outcome.InferOutcome.{InferOutcome}
 use Rattle.app_infer.specs.declared.outcome.InferOutcome.TheVariants.{Refused, Written}
 
@@ -33,12 +35,17 @@ module _ (files : List ℕ → File) (names : List (List ℕ)) (old : Option (Li
   -- streams that were read have no document together, or memory ran out
   pub none_left : (processes : List Process) (fault : Option documents.Fault) (result : Result InferOutcome EngineFault)
       → AllZip (IsSaidIn files) names processes → MatchOption fault ⊤ (λ f. document_of processes ≡ Err f)
-      → IfOk result (λ outcome. MatchOption fault ⊥ (λ f. refused_notice outcome ≡ Some (fault_line names f)))
+      → IfOk result (λ outcome. MatchOption fault ⊥ (λ f. refused_notice outcome
+      ≡ Some (refused_line (fault_words names f))))
       → IsOkUnless result Memory → InferLeaves files names result old old
   none_left processes None (Ok outcome) said due notice reported = absurd notice
   none_left processes None (Err f) said due notice reported = memory_left f reported
   none_left processes (Some f) result said due notice reported =
-      refused_left (fault_line names f) result (of_all processes f said due refl) notice reported
+      refused_left (refused_line (fault_words names f)) result (of_all (fault_words names f) (record {
+        processes = processes;
+        said = said;
+        is_due = document_same names processes ∙ ap (worded_document names) due;
+      }) refl) notice reported
 
 -- what holds of all files of these names
 all_named : {N : Type 0} (P : File → Type 0) (files : List ℕ → File) (name_of : N → List ℕ) (names : List N)

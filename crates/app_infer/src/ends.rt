@@ -1,20 +1,22 @@
 //! The exit status by how a run ended that infers a document, what is reported, and an explanation.
 ghost use Rattle.app_arguments.specs.Statuses.{WritesUpTo};
-ghost use Rattle.app_infer.specs.Inferences.{infer_notice, infer_status};
+ghost use Rattle.app_infer.specs.Inferences.{infer_report};
 ghost use Rattle.std.specs.Prelude.{◌≡◌};
 
-use super::outcome::{InferOutcome, Place};
+use super::advice::{expected, session_advice, stream_advice};
+use super::outcome::{InferOutcome, Reason};
 use app_ends::{put_fault, rows_of};
 use app_host::{REFUSED, SUCCESS, System, World, report_fault, write_line};
-use app_text::{Source, line_at, say, show_numbered};
+use app_text::{Source, line_at, say_advice, show_numbered};
 use judge_session::EngineFault;
 use std::alloc::AllocError;
 use std::io::Write;
 
 /// The exit status by how a run ended that infers a document, which is reported if none is written.
 pub fn report_infer<E: Write>(end: &Result<InferOutcome, EngineFault>, errors: &mut E) -> u8
-    ensures status { result ≡ infer_status end.now }
-    ensures errors { WritesUpTo (λ text. text ≡ infer_notice end.now) (E.contents errors.old) (E.contents errors.new) }
+    ensures status { result ≡ (infer_report end.now).0 }
+    ensures errors { WritesUpTo (λ text. text ≡ (infer_report end.now).1) (E.contents errors.old)
+        (E.contents errors.new) }
 {
     match end {
         Ok(outcome) => match outcome {
@@ -31,20 +33,15 @@ pub fn report_infer<E: Write>(end: &Result<InferOutcome, EngineFault>, errors: &
     }
 }
 
-/// Shows the line at this place, if what was read of its stream is noted.
-fn show_place<Y: System>(
+/// Shows the line of this number of the stream at this place, if what was read of the stream is noted.
+fn show_fault<Y: System>(
     out: &mut Vec<u8>,
     world: &World<'_, Y>,
-    names: &[&str],
-    place: Place,
+    name: &str,
+    place: usize,
+    number: u64,
 ) -> Result<(), AllocError> {
-    let Some(number) = place.line else {
-        return Ok(());
-    };
-    let Some(name) = names.get(place.stream) else {
-        return Ok(());
-    };
-    let Some(note) = world.notes.stream(place.stream) else {
+    let Some(note) = world.notes.stream(place) else {
         return Ok(());
     };
     let Some(bytes) = note.bytes() else {
@@ -58,6 +55,24 @@ fn show_place<Y: System>(
     show_numbered(out, &source, number, line_at(bytes, number), None)
 }
 
+/// Explains why streams have no document: which line is at fault, and what to do.
+fn put_reason<Y: System>(
+    out: &mut Vec<u8>,
+    world: &World<'_, Y>,
+    names: &[&str],
+    reason: Reason,
+) -> Result<(), AllocError> {
+    match reason {
+        Reason::Stream(place, fault) => {
+            if let (Some(name), Some(number)) = (names.get(place), fault.line) {
+                show_fault(out, world, name, place, number)?;
+            }
+            say_advice(out, expected(fault.wrong), stream_advice(fault.wrong))
+        }
+        Reason::Session(fault) => say_advice(out, "", session_advice(fault)),
+    }
+}
+
 /// Explains how a run ended that infers a document.
 fn put_infer<Y: System>(
     out: &mut Vec<u8>,
@@ -68,16 +83,7 @@ fn put_infer<Y: System>(
     match end {
         Ok(outcome) => match outcome {
             InferOutcome::Written => Ok(()),
-            InferOutcome::Refused(place, _) => {
-                if let Some(place) = place {
-                    show_place(out, world, names, *place)?;
-                }
-                say(
-                    out,
-                    "What to do: a document is made of one stream of each process, at most 16 of them, as recorders \
-write them; docs/RECORDING.md has the format.\n",
-                )
-            }
+            InferOutcome::Refused(reason, _) => put_reason(out, world, names, *reason),
         },
         Err(fault) => put_fault(out, world, None, "", names, fault),
     }

@@ -9,9 +9,11 @@
 //! - `words`: the line that says why there is no document
 //! - `refusals`: why streams have no document, with that line
 //! - `stream_files`: reads the streams, and writes their document
+//! - `advice`: what to do about streams that have no document
 //! - `ends`: the exit status, what is reported, and an explanation
 #![tactic(auto)]
 
+mod advice;
 mod ends;
 mod outcome;
 mod refusals;
@@ -19,5 +21,5 @@ mod stream_files;
 mod words;
 
 pub use ends::{infer_text, report_infer};
-pub use outcome::{InferOutcome, Place};
+pub use outcome::{InferOutcome, Reason};
 pub use stream_files::infer_files;

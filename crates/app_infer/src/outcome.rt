@@ -1,12 +1,14 @@
 //! What comes of streams: a document, or why there is none.
 
-/// Where the fault of streams stands that have no document.
+use judge_infer::{DocumentFault, StreamFault};
+
+/// Why streams have no document.
 #[derive(Clone, Copy, Debug, PartialEq, Eq)]
-pub struct Place {
-    /// The place of the stream among the names, counted from 0.
-    pub stream: usize,
-    /// The number of the line, counted from 1; none if the stream as a whole is at fault.
-    pub line: Option<u64>,
+pub enum Reason {
+    /// The stream at this place among the names, counted from 0, has this fault.
+    Stream(usize, StreamFault),
+    /// The streams have this one together.
+    Session(DocumentFault),
 }
 
 /// What comes of streams.
@@ -14,6 +16,6 @@ pub struct Place {
 pub enum InferOutcome {
     /// The document is written.
     Written,
-    /// There is none: where the fault stands, if one stream is at fault, and the line that says so, with its LF.
-    Refused(Option<Place>, Vec<u8>),
+    /// There is none, for this reason: with the line that says so, and its LF.
+    Refused(Reason, Vec<u8>),
 }

@@ -1,6 +1,8 @@
 //! Reads the streams, and writes their document.
-ghost use Rattle.app_infer.specs.Inferences.{InferLeaves, IsRefusedFor, IsSaidIn, IsStreamOf, refused_line};
-ghost use Rattle.judge_infer.specs.Inferred.{said, Process};
+ghost use Rattle.app_infer.specs.Inferences.{InferLeaves, IsRefusedFor, IsStreamOf, refused_line};
+ghost use Rattle.app_infer.specs.Outcomes.{IsSaidIn};
+ghost use Rattle.judge_infer.specs.Inferred.{fault_words, stream_process, worded};
+ghost use Rattle.judge_infer.specs.Streams.{Process};
 ghost use Rattle.judge_infer.specs.Views.{stream_fault_view};
 ghost use Rattle.std.specs.Io.KnownBytes.{Appends};
 ghost use Rattle.std.specs.List.{AllZip};
@@ -26,7 +28,7 @@ fn read_stream<Y: System>(
     place: usize,
 ) -> Result<Vec<u8>, EngineFault>
     ensures read { IfOk result (λ bytes. IsStreamOf (Y.Files.file_of world.now.files.now name.now).source
-        (said bytes.items)) }
+        (worded (stream_process bytes.items))) }
     ensures sure { (Y.Files.file_of world.now.files.now name.now).opens ≡ true
         → (Y.Files.file_of world.now.files.now name.now).source.fails ≡ Some false
         → result ≡ Err EngineFault.Read → ⊥ }
@@ -50,7 +52,8 @@ fn add_stream<Y: System>(
         × IsSaidIn (Y.Files.file_of world.now.files.now) name.now process
         × (session.new ≡ session.old ++ process ∷ []))) }
     ensures refused { IfOk result (λ found. IfSome found (λ fault.
-        IsStreamOf (Y.Files.file_of world.now.files.now name.now).source (Err (stream_fault_view fault)))) }
+        IsStreamOf (Y.Files.file_of world.now.files.now name.now).source
+        (Err (fault_words (stream_fault_view fault))))) }
     ensures sure { (Y.Files.file_of world.now.files.now name.now).opens ≡ true
         → (Y.Files.file_of world.now.files.now name.now).source.fails ≡ Some false
         → result ≡ Err EngineFault.Read → ⊥ }
@@ -81,7 +84,8 @@ fn add_streams<Y: System>(
         (map (λ name. name.now) names.now) session.new)) }
     ensures refused { IfOk result (λ found. IfSome found (λ at. IsRefusedFor (Y.Files.file_of world.now.files.now)
         (map (λ name. name.now) names.now)
-        (refused_line (slice_index_or (map (λ name. name.now) names.now) at.0 []) (stream_fault_view at.1)))) }
+        (refused_line (slice_index_or (map (λ name. name.now) names.now) at.0 []
+        ++ fault_words (stream_fault_view at.1))))) }
     ensures sure { All (λ name. (Y.Files.file_of world.now.files.now name.now).opens ≡ true) names.now
         → All (λ name. (Y.Files.file_of world.now.files.now name.now).source.fails ≡ Some false) names.now
         → result ≡ Err EngineFault.Read → ⊥ }
@@ -122,6 +126,7 @@ fn write_document<O: Write>(text: &[u8], output: &mut O) -> Result<InferOutcome,
 /// # Errors
 /// `Memory` leaves nothing written. `Write` leaves a part of the document written, or all of it if only the flush
 /// failed.
+#[tactic(auto, using(crate::proofs::Written::document_written))]
 fn write_session<Y: System, O: Write>(
     world: &World<'_, Y>,
     names: &[&str],

@@ -1,5 +1,6 @@
 //! The line that says why there is no document.
-ghost use Rattle.app_infer.specs.Inferences.{many_line, no_stream_line, refused_line, same_line, place_words, wrong_words};
+ghost use Rattle.app_infer.specs.Inferences.{refused_line};
+ghost use Rattle.judge_infer.specs.Inferred.{fault_words, placed_words, wrong_words};
 ghost use Rattle.judge_infer.specs.Views.{stream_fault_view, wrong_view};
 ghost use Rattle.std.specs.Prelude.{◌≡◌, ◌++◌, IfOk, OnOk, codes};
 
@@ -28,23 +29,25 @@ pub(crate) fn wrong_words(wrong: Wrong) -> &'static str
     }
 }
 
-/// Appends the number of a line, if a line is at fault.
-fn push_line_number(out: &mut Vec<u8>, line: Option<u64>) -> Result<(), AllocError>
-    ensures { OnOk result (out.new.items ≡ out.old.items ++ place_words line) }
+/// Appends words on a line of this number, or on a stream as a whole.
+fn push_placed(out: &mut Vec<u8>, line: Option<u64>, words: &str) -> Result<(), AllocError>
+    ensures { OnOk result (out.new.items ≡ out.old.items ++ placed_words line words.now) }
 {
     if let Some(line) = line {
         push_bytes(out, b" line ")?;
         push_number(out, line)?;
     }
+    push_bytes(out, b": ")?;
+    push_bytes(out, words.as_bytes())?;
     Ok(())
 }
 
-/// The beginning of the line, with the name of the file.
-fn begin_line(alloc: Global, name: &str) -> Result<Vec<u8>, AllocError>
-    ensures { IfOk result (λ line. line.items ≡ codes "monitor: no document: " ++ name.now) }
+/// The beginning of the line, with the name of the file or a reason.
+fn begin_line(alloc: Global, words: &str) -> Result<Vec<u8>, AllocError>
+    ensures { IfOk result (λ line. line.items ≡ codes "monitor: no document: " ++ words.now) }
 {
     let mut out = Vec::from_slice(alloc, b"monitor: no document: ")?;
-    push_bytes(&mut out, name.as_bytes())?;
+    push_bytes(&mut out, words.as_bytes())?;
     Ok(out)
 }
 
@@ -54,19 +57,19 @@ pub(crate) fn refused_line(
     name: &str,
     fault: StreamFault,
 ) -> Result<Vec<u8>, AllocError>
-    ensures { IfOk result (λ line. line.items ≡ refused_line name.now (stream_fault_view fault)) }
+    ensures { IfOk result (λ line. line.items
+        ≡ refused_line (name.now ++ fault_words (stream_fault_view fault))) }
 {
     let mut out = begin_line(alloc, name)?;
-    push_line_number(&mut out, fault.line)?;
-    push_bytes(&mut out, b": ")?;
-    push_bytes(&mut out, wrong_words(fault.wrong).as_bytes())?;
+    push_placed(&mut out, fault.line, wrong_words(fault.wrong))?;
     push_bytes(&mut out, b"\n")?;
     Ok(out)
 }
 
 /// The line of two streams of one process.
 pub(crate) fn same_line(alloc: Global, first: &str, second: &str) -> Result<Vec<u8>, AllocError>
-    ensures { IfOk result (λ line. line.items ≡ same_line first.now second.now) }
+    ensures { IfOk result (λ line. line.items
+        ≡ refused_line (second.now ++ codes ": it is of the same process as " ++ first.now)) }
 {
     let mut out = begin_line(alloc, second)?;
     push_bytes(&mut out, b": it is of the same process as ")?;
@@ -75,19 +78,12 @@ pub(crate) fn same_line(alloc: Global, first: &str, second: &str) -> Result<Vec<
     Ok(out)
 }
 
-/// The line of streams of which there are too many.
-pub(crate) fn many_line(alloc: Global) -> Result<Vec<u8>, AllocError>
-    ensures { IfOk result (λ line. line.items ≡ many_line) }
+/// The line of streams for which this is the reason.
+#[tactic(auto, unfolding(crate::specs::Inferences::refused_line))]
+pub(crate) fn reason_line(alloc: Global, why: &str) -> Result<Vec<u8>, AllocError>
+    ensures { IfOk result (λ line. line.items ≡ refused_line why.now) }
 {
-    Vec::from_slice(
-        alloc,
-        b"monitor: no document: there are more than 16 streams\n",
-    )
-}
-
-/// The line of no stream.
-pub(crate) fn no_stream_line(alloc: Global) -> Result<Vec<u8>, AllocError>
-    ensures { IfOk result (λ line. line.items ≡ no_stream_line) }
-{
-    Vec::from_slice(alloc, b"monitor: no document: there is no stream\n")
+    let mut out = begin_line(alloc, why)?;
+    push_bytes(&mut out, b"\n")?;
+    Ok(out)
 }

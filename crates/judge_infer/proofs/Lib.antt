@@ -5,3 +5,5 @@ mod Parts
 mod SameSteps
 mod StatementFacts
 mod VarSteps
+pub mod StreamSteps
+pub mod DocumentSteps

@@ -3,8 +3,8 @@ use Rattle.std.proofs.Common.{◌≡◌, ◌<◌, ◌+◌, ℕ, suc, List, [], �
 use Rattle.std.specs.Prelude.{Option, None, position}
 use Rattle.std.specs.Str.{bytes_eq}
 use Rattle.std.proofs.lemmas.List.{map-append, map_more}
-use Rattle.judge_infer.specs.FirstDocuments.{names_of, same_after}
-use Rattle.judge_infer.specs.Inferred.{Process}
+use Rattle.judge_infer.specs.DocumentParts.{names_of, again_after}
+use Rattle.judge_infer.specs.Streams.{Process}
 
 module _ {N : Type 0} (view : N → Process) (xs : List N) (i : ℕ) (d : N) (lt : i < length xs) where
   abbrev pub before : List (List ℕ)
@@ -26,14 +26,14 @@ module _ {N : Type 0} (view : N → Process) (xs : List N) (i : ℕ) (d : N) (lt
 
   -- no earlier one has its name
   same_on : position (λ other. bytes_eq other name) before ≡ None
-      → same_after before (names_of (map view (drop i xs)))
-      ≡ same_after (names_of (map view (take (i + 1) xs))) (names_of (map view (drop (i + 1) xs)))
+      → again_after before (names_of (map view (drop i xs)))
+      ≡ again_after (names_of (map view (take (i + 1) xs))) (names_of (map view (drop (i + 1) xs)))
   same_on none = rw (left, none, taken, add-one i) refl
 
   pub same_goes_on : (front : List N) (n : List ℕ) (place : Option ℕ) → front ≡ take i xs → n ≡ name
       → place ≡ position (λ other. bytes_eq other n) (names_of (map view front)) → place ≡ None
-      → same_after before (names_of (map view (drop i xs)))
-      ≡ same_after (names_of (map view (take (i + 1) xs))) (names_of (map view (drop (i + 1) xs)))
+      → again_after before (names_of (map view (drop i xs)))
+      ≡ again_after (names_of (map view (take (i + 1) xs))) (names_of (map view (drop (i + 1) xs)))
   same_goes_on front n place fronts names places none =
       same_on (ap (λ (f : List N). position (λ other. bytes_eq other name) (names_of (map view f))) (sym fronts)
       ∙ (ap (λ (m : List ℕ). position (λ other. bytes_eq other m) (names_of (map view front))) (sym names)

@@ -7,7 +7,8 @@ use Rattle.json.specs.Find.{as_object, get}
 use Rattle.json.specs.Json.{Json, document}
 use Rattle.json.specs.Value.{members_view}
 use Rattle.json.specs.declared.value.Value.{Value}
-use Rattle.judge_infer.specs.Inferred.{Wrong, member_names, names_or_none, ordered_value, set_names, with_var, with_vars}
+use Rattle.judge_infer.specs.Inferred.{Wrong, names_or_none, ordered_value, set_names, with_var, with_vars}
+use Rattle.judge_infer.specs.Streams.{member_names}
 use Rattle.judge_infer.specs.Views.{IsVars}
 use Rattle.judge_infer.specs.declared.fault.AddFault.{AddFault}
 

@@ -1,78 +1,44 @@
--- The first session document of streams, by what they say.
-use Rattle.std.specs.Prelude.{ℕ, Bool, true, false, nat_lt, if◌then◌else◌, List, [], ◌∷◌, ◌++◌, length, map, flat_map, codes, position, Option, Some, None, Result, Ok, Err}
+-- The first session document of streams by what they say of their processes, or why they have none.
+use Rattle.std.specs.Prelude.{ℕ, nat_eq, nat_lt, if◌then◌else◌, List, [], ◌∷◌, ◌++◌, length, map, flat_map, codes, position, slice_index_or, Option, None, option_map, Result}
 use Rattle.std.specs.Str.{bytes_eq}
 use Rattle.def_format.specs.Documents.{has_twice}
 use Rattle.def_format.specs.Limits.{process_limit}
-use Rattle.judge_infer.specs.Inferred.{Process}
-
--- ---- the text
+use Rattle.def_format.specs.Lists.{first_some, first_that_applies, unless}
+use Rattle.judge_infer.specs.Streams.{Process}
 
 -- texts one after another, with this one between each two
-abbrev pub joined_by : List ℕ → List (List ℕ) → List ℕ
-joined_by between [] = []
-joined_by between (text ∷ texts) = text ++ flat_map (λ other. between ++ other) texts
+abbrev pub list_text : List ℕ → List (List ℕ) → List ℕ
+list_text between [] = []
+list_text between (text ∷ texts) = text ++ flat_map (λ other. between ++ other) texts
 
--- a variable with the initial value 0
-abbrev pub var_text : List ℕ → List ℕ
-var_text var = codes "\"" ++ var ++ codes "\":0"
-
-unfoldable pub vars_text : List (List ℕ) → List ℕ
-vars_text vars = joined_by (codes ",") (map var_text vars)
-
-unfoldable pub process_text : Process → List ℕ
+-- with the initial value 0 for each variable
+abbrev pub process_text : Process → List ℕ
 process_text process =
-    codes "{\"name\":\"" ++ process.name ++ codes "\",\"vars\":{" ++ vars_text process.vars ++ codes "}}"
+    codes "{\"name\":\"" ++ process.name ++ codes "\",\"vars\":{"
+    ++ list_text (codes ",") (map (λ var. codes "\"" ++ var ++ codes "\":0") process.vars) ++ codes "}}"
 
-unfoldable pub processes_text : List Process → List ℕ
-processes_text processes = joined_by (codes ",\n  ") (map process_text processes)
-
--- some message is received more than once in all
-abbrev pub is_copied : List Process → Bool
-is_copied processes = has_twice (flat_map (λ (process : Process). process.received) processes)
-
--- the field of version 2, if a message is received more than once
-abbrev pub version_text : Bool → List ℕ
-version_text true = codes ",\n \"version\":2"
-version_text false = []
-
--- the field of the predicates: one that never holds
-abbrev pub predicates_text : List ℕ
-predicates_text = codes "\"predicates\":[\n  {\"name\":\"replace_this\",\"text\":\"false\"}]"
-
-unfoldable pub first_document : List Process → List ℕ
-first_document processes =
-    codes "{\"processes\":[\n  " ++ processes_text processes ++ codes "],\n " ++ predicates_text
-    ++ version_text (is_copied processes) ++ codes "}\n"
-
--- ---- streams without a document
-
-pub data Fault : Type 0 where
-  -- there is no stream
-  NoStream : Fault
-  -- there are more than a document may have processes
-  TooMany : Fault
-  -- the streams at these places, from 0, are of one process
-  SameProcess : ℕ → ℕ → Fault
-
-abbrev pub same_or : Option ℕ → ℕ → Option (ℕ × ℕ) → Option (ℕ × ℕ)
-same_or None place later = later
-same_or (Some first) place later = Some (first, place)
+-- of version 2 if a message is received more than once in all, and with a predicate that never holds
+abbrev pub document_text : List Process → List ℕ
+document_text processes =
+    codes "{\"processes\":[\n  " ++ list_text (codes ",\n  ") (map process_text processes) ++ codes "],\n "
+    ++ codes "\"predicates\":[\n  {\"name\":\"replace_this\",\"text\":\"false\"}]"
+    ++ (if has_twice (flat_map (λ (process : Process). process.received) processes)
+    then codes ",\n \"version\":2" else [])
+    ++ codes "}\n"
 
 -- The first of these names that an earlier one is too, by the place of that one and its own. Before them stand others.
-abbrev pub same_after : List (List ℕ) → List (List ℕ) → Option (ℕ × ℕ)
-same_after before [] = None
-same_after before (name ∷ names) =
-    same_or (position (λ other. bytes_eq other name) before) (length before) (same_after (before ++ name ∷ []) names)
+abbrev pub first_again : (before names : List (List ℕ)) → Option (ℕ × ℕ)
+first_again before [] = None
+first_again before (name ∷ names) =
+    first_some (option_map (λ place. (place, length before)) (position (λ other. bytes_eq other name) before))
+    (first_again (before ++ name ∷ []) names)
 
-abbrev pub names_of : List Process → List (List ℕ)
-names_of processes = map (λ (process : Process). process.name) processes
-
-abbrev pub unless_same : List Process → Option (ℕ × ℕ) → Result (List ℕ) Fault
-unless_same processes (Some places) = Err (SameProcess places.0 places.1)
-unless_same [] None = Err NoStream
-unless_same processes None =
-    if nat_lt process_limit (length processes) then Err TooMany else Ok (first_document processes)
-
--- the document of streams that say this, or why there is none
-abbrev pub document_of : List Process → Result (List ℕ) Fault
-document_of processes = unless_same processes (same_after [] (names_of processes))
+-- the document of streams in files of these names that are of these processes, or why there is none, in words
+abbrev pub document_of : (files : List (List ℕ)) → List Process → Result (List ℕ) (List ℕ)
+document_of files processes =
+    unless (first_some
+    (option_map (λ (places : ℕ × ℕ). slice_index_or files places.1 [] ++ codes ": it is of the same process as "
+    ++ slice_index_or files places.0 []) (first_again [] (map (λ (process : Process). process.name) processes)))
+    (first_that_applies ((nat_eq (length processes) 0, codes "there is no stream")
+    ∷ (nat_lt process_limit (length processes), codes "there are more than 16 streams") ∷ [])))
+    (document_text processes)

@@ -1,15 +1,16 @@
--- What the bytes of a stream say of its process before there is a document.
+-- What the lines of a stream say one after another, and what is wrong with the first that is refused.
 use Rattle.std.specs.Prelude.{ℕ, suc, ◌+◌, Bool, true, false, not, nat_le, nat_lt, if◌then◌else◌, List, [], ◌∷◌, ◌++◌, length, codes, Option, Some, None, is_some, option_and_then, Result, Ok, Err}
 use Rattle.std.specs.Str.{is_utf8}
 use Rattle.std.specs.List.{list_all}
 use Rattle.json.specs.Json as json
 use Rattle.json.specs.Find.{get, as_object}
 use Rattle.serde_json.specs.Data.{Data, Members}
-use Rattle.def_model.specs.Events.{Kind, Local, Send, Receive}
+use Rattle.def_model.specs.Events.{Kind}
 use Rattle.def_format.specs.Lines.{all_lines, is_blank}
 use Rattle.def_format.specs.Limits.{event_limit, line_byte_limit, stream_byte_limit, var_limit}
 use Rattle.def_format.specs.Lists.{is_one_of}
 use Rattle.def_format.specs.Names.{is_name}
+use Rattle.judge_infer.specs.Streams.{Found, Process, in_line, member_names, with_receipt}
 use Rattle.def_format.specs.Records.{Statement, SaysEnd, SaysEvent, SaysJoin, id_fits, json_value, statement_of, values, whole_number}
 
 -- what is wrong with a stream
@@ -46,18 +47,34 @@ pub record Fault : Type 0 where
   pub line : Option ℕ
   pub wrong : Wrong
 
+abbrev pub wrong_words : Wrong → List ℕ
+wrong_words StreamTooLong = codes "it has more than 16,777,216 bytes"
+wrong_words NoLine = codes "it has no line that says whose stream it is"
+wrong_words LineTooLong = codes "the line has more than 65,536 bytes"
+wrong_words Json = codes "it isn't JSON, and isn't the last line"
+wrong_words Shape = codes "it is no record of a stream"
+wrong_words NoJoin = codes "the stream doesn't begin with its process"
+wrong_words SecondJoin = codes "a second run begins here"
+wrong_words ProcessName = codes "no process of a document can have this name"
+wrong_words Events = codes "the process has more than 10,000 events"
+wrong_words Value = codes "a value is no whole number of 64 bits"
+wrong_words MessageId = codes "the id of a message has 1 to 64 bytes"
+wrong_words VarName = codes "no variable of a document can have this name"
+wrong_words Vars = codes "the process has more than 16 variables"
+
+abbrev pub placed_words : Option ℕ → List ℕ → List ℕ
+placed_words None words = codes ": " ++ words
+placed_words (Some line) words = in_line line words
+
+-- what stands after the name of the stream's file, if it is refused for this
+abbrev pub fault_words : Fault → List ℕ
+fault_words fault = placed_words fault.line (wrong_words fault.wrong)
+
 abbrev pub fault_at : ℕ → Wrong → Fault
 fault_at line wrong = record { line = Some line; wrong = wrong }
 
 abbrev pub fault_of_whole : Wrong → Fault
 fault_of_whole wrong = record { line = None; wrong = wrong }
-
--- what a stream says: its process, the variables that the events set, in the order in which each is first set, and the
--- ids of the messages that they receive, in their order
-pub record Process : Type 0 where
-  pub name : List ℕ
-  pub vars : List (List ℕ)
-  pub received : List (List ℕ)
 
 -- what its lines say so far
 pub record Stage : Type 0 where
@@ -76,10 +93,6 @@ abbrev pub fresh : Stage
 fresh = record { process = None; vars = []; received = []; events = 0; cut = None; is_ended = false }
 
 -- ---- the variables that a line sets
-
-abbrev pub member_names : json.Members → List (List ℕ)
-member_names json.no_members = []
-member_names (json.member name value others) = name ∷ member_names others
 
 abbrev pub names_or_none : Option json.Members → List (List ℕ)
 names_or_none None = []
@@ -139,11 +152,6 @@ with_end s = record {
   cut = s.cut;
   is_ended = true;
 }
-
-abbrev pub with_receipt : Kind → List (List ℕ) → List (List ℕ)
-with_receipt Local received = received
-with_receipt (Send id) received = received
-with_receipt (Receive id) received = received ++ id ∷ []
 
 abbrev pub with_event : Stage → Kind → List (List ℕ) → Stage
 with_event s kind vars = record {
@@ -211,7 +219,12 @@ process_of s None = Err (fault_of_whole NoLine)
 process_of s (Some name) = Ok (record { name = name; vars = s.vars; received = s.received })
 
 -- What the bytes of a stream say, which may have no end line, and whose last line may be cut short; or its first fault.
-unfoldable pub said : List ℕ → Result Process Fault
-said bytes =
+unfoldable pub stream_process : List ℕ → Result Process Fault
+stream_process bytes =
     if nat_lt stream_byte_limit (length bytes) then Err (fault_of_whole StreamTooLong)
     else unless_wrong (λ s. process_of s s.process) (after_lines fresh 1 (all_lines bytes))
+
+-- with the words for the fault
+abbrev pub worded : Result Process Fault → Found
+worded (Ok process) = Ok process
+worded (Err fault) = Err (fault_words fault)

@@ -2,7 +2,8 @@
 use Rattle.std.specs.Prelude.{◌≡◌, ⊤, ℕ, List, Vec, map, Option, Some, None, option_map, Result, MatchResult, MatchOption, Err, Ok, string_bytes}
 use Rattle.std.specs.Global.{Global}
 use Rattle.judge_infer.specs.Inferred as inferred
-use Rattle.judge_infer.specs.FirstDocuments as documents
+use Rattle.judge_infer.specs.Streams as streams
+use Rattle.judge_infer.specs.DocumentParts as documents
 use Rattle.judge_infer.specs.declared.fault.Wrong.{Wrong}
 use Rattle.judge_infer.specs.declared.fault.Wrong.TheVariants as wrongs
 use Rattle.judge_infer.specs.declared.fault.StreamFault.{StreamFault}
@@ -11,7 +12,7 @@ use Rattle.judge_infer.specs.declared.fault.AddFault.TheVariants as adds
 use Rattle.judge_infer.specs.declared.fault.DocumentFault.{DocumentFault}
 use Rattle.judge_infer.specs.declared.fault.DocumentFault.TheVariants as faults
 use Rattle.judge_infer.specs.declared.stage.Stage.{Stage}
-use Rattle.judge_infer.specs.declared.said.Process.{Process}
+use Rattle.judge_infer.specs.declared.process.Process.{Process}
 
 abbrev pub wrong_view : Wrong → inferred.Wrong
 wrong_view wrongs.StreamTooLong = inferred.StreamTooLong
@@ -53,7 +54,7 @@ stage_view stage = record {
   is_ended = stage.is_ended;
 }
 
-abbrev pub process_view : Process → inferred.Process
+abbrev pub process_view : Process → streams.Process
 process_view process = record {
   name = string_bytes process.name;
   vars = map string_bytes process.vars.items;

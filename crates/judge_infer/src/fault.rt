@@ -112,7 +112,7 @@ ghost use Rattle.judge_infer.specs.Views.{add_fault_view, wrong_view};
 ghost use Rattle.std.specs.Prelude.{◌≡◌, Some};
 
 /// The refusal of a stream for a line.
-pub(crate) fn refused(line: u64, wrong: Wrong) -> AddFault
+pub(crate) fn line_fault(line: u64, wrong: Wrong) -> AddFault
     ensures { add_fault_view result ≡ Some (fault_at line (wrong_view wrong)) }
 {
     AddFault::Refused(StreamFault {
@@ -124,7 +124,7 @@ pub(crate) fn refused(line: u64, wrong: Wrong) -> AddFault
 ghost use Rattle.judge_infer.specs.Inferred.{fault_of_whole};
 
 /// The refusal of a stream as a whole.
-pub(crate) fn refused_whole(wrong: Wrong) -> AddFault
+pub(crate) fn stream_fault(wrong: Wrong) -> AddFault
     ensures { add_fault_view result ≡ Some (fault_of_whole (wrong_view wrong)) }
 {
     AddFault::Refused(StreamFault { line: None, wrong })

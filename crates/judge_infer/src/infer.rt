@@ -1,11 +1,12 @@
 //! The streams that were read, and their document.
-ghost use Rattle.judge_infer.specs.FirstDocuments.{document_of, names_of, same_after};
-ghost use Rattle.judge_infer.specs.Inferred.{Process as said_process, said};
+ghost use Rattle.judge_infer.specs.DocumentParts.{again_after, document_of, names_of};
+ghost use Rattle.judge_infer.specs.Inferred.{stream_process};
+ghost use Rattle.judge_infer.specs.Streams.{Process as StreamProcess};
 ghost use Rattle.judge_infer.specs.Views.{IsDocumentDue, add_fault_view, process_view};
 ghost use Rattle.std.specs.Prelude.{◌≡◌, ◌++◌, ◌∷◌, [], Err, IfErr, IfSome, MatchOption, Ok, OnErr, OnOk, Some, map, option_map, position, string_bytes, take, ⊤};
 ghost use Rattle.std.specs.Str.{bytes_eq};
 
-use super::said::{Process, said};
+use super::process::{Process, read_process};
 use super::text::first_document;
 use super::{AddFault, DocumentFault};
 use def_format::PROCESS_LIMIT;
@@ -21,9 +22,9 @@ pub struct Session {
 
 impl Model for Session {
     ghost use Rattle.std.specs.Prelude.{List, map};
-    ghost use Rattle.judge_infer.specs.Inferred.{Process as said_process};
+    ghost use Rattle.judge_infer.specs.Streams.{Process as StreamProcess};
 
-    ghost Value = { List said_process };
+    ghost Value = { List StreamProcess };
 
     ghost use Rattle.judge_infer.specs.Views.{process_view};
 
@@ -47,7 +48,7 @@ fn place_of(processes: &[Process], name: &str) -> Option<usize>
 
 /// The first process whose name an earlier one has too, by the place of that one and its own.
 fn same_process(processes: &[Process]) -> Option<(usize, usize)>
-    ensures { result ≡ same_after [] (names_of (map process_view processes.now)) }
+    ensures { result ≡ again_after [] (names_of (map process_view processes.now)) }
 {
     for i in 0..processes.len() {
         let (before, _) = processes.split_at(i);
@@ -75,12 +76,13 @@ impl Session {
     /// # Errors
     /// The first fault of the stream, or out of memory. The session stays as it was.
     pub fn add(&mut self, bytes: &[u8]) -> Result<(), AddFault>
-        ensures said { OnOk result ((process : said_process) × (said bytes.now ≡ Ok process)
+        ensures process { OnOk result ((process : StreamProcess) × (stream_process bytes.now ≡ Ok process)
             × (self.new ≡ self.old ++ process ∷ [])) }
-        ensures refused { IfErr result (λ fault. MatchOption (add_fault_view fault) ⊤ (λ f. said bytes.now ≡ Err f)) }
+        ensures fault { IfErr result (λ fault. MatchOption (add_fault_view fault) ⊤
+            (λ f. stream_process bytes.now ≡ Err f)) }
         ensures stays { OnErr result (self.new ≡ self.old) }
     {
-        let process = said(self.alloc, bytes)?;
+        let process = read_process(self.alloc, bytes)?;
         self.processes.push(process)?;
         Ok(())
     }

@@ -5,8 +5,9 @@
 //! document: each process in the order of the streams, its variables with the initial value 0, version 2 if a message
 //! is received more than once in all, and the predicate `false` under the name `replace_this`.
 //!
-//! What the bytes of a stream say stands in `specs/Inferred.antt`, and the text of the document in
-//! `specs/FirstDocuments.antt`.
+//! What the bytes of a stream say stands in `specs/Streams.antt`, and the text of the document in
+//! `specs/FirstDocuments.antt`. The clauses have the same line by line (`specs/Inferred.antt`) and part by part
+//! (`specs/DocumentParts.antt`); `proofs/StreamSteps.antt` and `proofs/DocumentSteps.antt` prove that it is the same.
 //!
 //! - `fault`: why a stream is refused, and why streams have no document
 //! - `fields`: the field of a JSON object that has one alone
@@ -14,7 +15,7 @@
 //! - `names`: the variables that a line sets, in the order of its text
 //! - `stage`: what the lines of a stream say so far
 //! - `lines`: the first line of some bytes
-//! - `said`: what a stream says of its process
+//! - `process`: what a stream says of its process
 //! - `twice`: texts that stand twice in a list
 //! - `text`: the text of the first document
 //! - `infer`: the streams that were read, and their document
@@ -25,7 +26,7 @@ mod fields;
 mod infer;
 mod lines;
 mod names;
-mod said;
+mod process;
 mod stage;
 mod statement;
 mod text;

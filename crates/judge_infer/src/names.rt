@@ -1,7 +1,8 @@
 //! The variables that a line sets, in the order of its text.
 ghost use Rattle.json.specs.Find.{as_object, get};
 ghost use Rattle.json.specs.Value.{members_view, value_view};
-ghost use Rattle.judge_infer.specs.Inferred.{member_names, names_or_none, set_names, with_var, with_vars};
+ghost use Rattle.judge_infer.specs.Inferred.{names_or_none, set_names, with_var, with_vars};
+ghost use Rattle.judge_infer.specs.Streams.{member_names};
 ghost use Rattle.judge_infer.specs.Views.{IsVars};
 ghost use Rattle.def_format.specs.Lists.{is_one_of};
 ghost use Rattle.std.specs.List.{list_any};
@@ -9,7 +10,7 @@ ghost use Rattle.std.specs.Str.{bytes_eq};
 ghost use Rattle.std.specs.Prelude.{◌≡◌, codes, map, option_and_then, option_map, string_bytes};
 
 use super::AddFault;
-use super::fault::{Wrong, refused};
+use super::fault::{Wrong, line_fault};
 use def_format::VAR_LIMIT;
 use json::{Error, Scratch, Value};
 use pd_pred::is_name;
@@ -37,10 +38,10 @@ fn add_var(alloc: Global, vars: &mut Vec<String>, number: u64, name: &str) -> Re
         return Ok(());
     }
     if !is_name(name.as_bytes()) {
-        return Err(refused(number, Wrong::VarName));
+        return Err(line_fault(number, Wrong::VarName));
     }
     if vars.len() >= VAR_LIMIT {
-        return Err(refused(number, Wrong::Vars));
+        return Err(line_fault(number, Wrong::Vars));
     }
     vars.push(String::from_str(alloc, name)?)?;
     Ok(())

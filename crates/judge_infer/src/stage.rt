@@ -1,5 +1,6 @@
 //! What the lines of a stream say so far.
-ghost use Rattle.judge_infer.specs.Inferred.{after_event, after_join, after_line, after_shape, after_statement, after_value, fresh, set_names, with_receipt};
+ghost use Rattle.judge_infer.specs.Inferred.{after_event, after_join, after_line, after_shape, after_statement, after_value, fresh, set_names};
+ghost use Rattle.judge_infer.specs.Streams.{with_receipt};
 ghost use Rattle.judge_infer.specs.Statements.{kind_said, settings_view, statement_view};
 ghost use Rattle.judge_infer.specs.Views.{IsDue, stage_view};
 ghost use Rattle.def_format.specs.Records.{id_fits, json_value, statement_of, values, whole_number};
@@ -8,7 +9,7 @@ ghost use Rattle.std.specs.List.{list_all};
 ghost use Rattle.std.specs.Prelude.{◌≡◌, OnOk, is_some, map, option_map, string_bytes};
 
 use super::AddFault;
-use super::fault::{Wrong, refused};
+use super::fault::{Wrong, line_fault};
 use super::lines::is_blank;
 use super::names::add_set_vars;
 use super::statement::{Said, Statement, has_id_length, statement_of};
@@ -36,10 +37,10 @@ pub(crate) struct Stage {
 }
 
 /// Whether the id of this kind of event has 1 to 64 bytes, if there is one.
-fn has_fitting_id(said: Said<'_>) -> bool
-    ensures { result ≡ id_fits (kind_said said.entry) }
+fn has_fitting_id(kind: Said<'_>) -> bool
+    ensures { result ≡ id_fits (kind_said kind.entry) }
 {
-    match said {
+    match kind {
         Said::Local => true,
         Said::Send(id) | Said::Recv(id) => has_id_length(id),
     }
@@ -56,11 +57,11 @@ fn sets_whole(settings: Option<&Map<String, Value>>) -> bool
 }
 
 /// Adds the id of the message that an event receives, if it does.
-fn add_receipt(alloc: Global, received: &mut Vec<String>, said: Said<'_>) -> Result<(), AllocError>
+fn add_receipt(alloc: Global, received: &mut Vec<String>, kind: Said<'_>) -> Result<(), AllocError>
     ensures { OnOk result (map string_bytes received.new.items
-        ≡ with_receipt (kind_said said.entry) (map string_bytes received.old.items)) }
+        ≡ with_receipt (kind_said kind.entry) (map string_bytes received.old.items)) }
 {
-    match said {
+    match kind {
         Said::Local => Ok(()),
         Said::Send(_) => Ok(()),
         Said::Recv(id) => {
@@ -91,23 +92,23 @@ impl Stage {
         alloc: Global,
         number: u64,
         line: &[u8],
-        said: Said<'_>,
+        kind: Said<'_>,
         settings: Option<&Map<String, Value>>,
     ) -> Result<(), AddFault>
-        ensures { IsDue (after_event (stage_view self.old) number (set_names line.now) (kind_said said.entry)
+        ensures { IsDue (after_event (stage_view self.old) number (set_names line.now) (kind_said kind.entry)
             (settings_view settings.entry)) (stage_view self.new) result }
     {
         if self.events >= EVENT_LIMIT {
-            return Err(refused(number, Wrong::Events));
+            return Err(line_fault(number, Wrong::Events));
         }
         if !sets_whole(settings) {
-            return Err(refused(number, Wrong::Value));
+            return Err(line_fault(number, Wrong::Value));
         }
-        if !has_fitting_id(said) {
-            return Err(refused(number, Wrong::MessageId));
+        if !has_fitting_id(kind) {
+            return Err(line_fault(number, Wrong::MessageId));
         }
         add_set_vars(alloc, &mut self.vars, number, line)?;
-        add_receipt(alloc, &mut self.received, said)?;
+        add_receipt(alloc, &mut self.received, kind)?;
         self.events += 1;
         Ok(())
     }
@@ -117,10 +118,10 @@ impl Stage {
         ensures { IsDue (after_join (stage_view self.old) number name.now) (stage_view self.new) result }
     {
         if self.process.is_some() {
-            return Err(refused(number, Wrong::SecondJoin));
+            return Err(line_fault(number, Wrong::SecondJoin));
         }
         if !is_name(name.as_bytes()) {
-            return Err(refused(number, Wrong::ProcessName));
+            return Err(line_fault(number, Wrong::ProcessName));
         }
         self.process = Some(String::from_str(alloc, name)?);
         Ok(())
@@ -141,16 +142,16 @@ impl Stage {
             Statement::Join(name) => self.take_join(alloc, number, name),
             Statement::Finish => {
                 if self.process.is_none() {
-                    return Err(refused(number, Wrong::NoJoin));
+                    return Err(line_fault(number, Wrong::NoJoin));
                 }
                 self.is_ended = true;
                 Ok(())
             }
-            Statement::Event(said, settings) => {
+            Statement::Event(kind, settings) => {
                 if self.process.is_none() {
-                    return Err(refused(number, Wrong::NoJoin));
+                    return Err(line_fault(number, Wrong::NoJoin));
                 }
-                self.take_event(alloc, number, line, said, settings)
+                self.take_event(alloc, number, line, kind, settings)
             }
         }
     }
@@ -168,7 +169,7 @@ impl Stage {
     {
         match statement_of(value) {
             Some(statement) => self.take_statement(alloc, number, line, statement),
-            None => Err(refused(number, Wrong::Shape)),
+            None => Err(line_fault(number, Wrong::Shape)),
         }
     }
 
@@ -198,13 +199,13 @@ impl Stage {
             return Ok(());
         }
         if line.len() > LINE_BYTE_LIMIT {
-            return Err(refused(number, Wrong::LineTooLong));
+            return Err(line_fault(number, Wrong::LineTooLong));
         }
         if is_blank(line) {
             return Ok(());
         }
         match self.cut {
-            Some(cut) => Err(refused(cut, Wrong::Json)),
+            Some(cut) => Err(line_fault(cut, Wrong::Json)),
             None => self.take_text(alloc, number, line),
         }
     }

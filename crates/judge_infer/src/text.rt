@@ -1,9 +1,9 @@
 //! The text of the first document.
-ghost use Rattle.judge_infer.specs.FirstDocuments.{first_document, is_copied, joined_by, predicates_text, process_text, processes_text, var_text, vars_text, version_text};
+ghost use Rattle.judge_infer.specs.DocumentParts.{first_document, is_copied, predicates_text, process_text, processes_text, var_text, vars_text, version_text};
 ghost use Rattle.judge_infer.specs.Views.{process_view};
 ghost use Rattle.std.specs.Prelude.{◌≡◌, ◌++◌, IfOk, OnOk, codes, flat_map, map, string_bytes};
 
-use super::said::Process;
+use super::process::Process;
 use super::twice::has_twice;
 use pd_report::push_bytes;
 use std::alloc::{AllocError, Global};
@@ -19,7 +19,7 @@ fn push_var(out: &mut Vec<u8>, var: &str) -> Result<(), AllocError>
 }
 
 /// Appends variables with a comma between each two.
-#[tactic(auto, unfolding(crate::specs::FirstDocuments::vars_text))]
+#[tactic(auto, unfolding(crate::specs::DocumentParts::vars_text))]
 fn push_vars(out: &mut Vec<u8>, vars: &[String]) -> Result<(), AllocError>
     ensures { OnOk result (out.new.items ≡ out.old.items ++ vars_text (map string_bytes vars.now)) }
 {
@@ -35,7 +35,7 @@ fn push_vars(out: &mut Vec<u8>, vars: &[String]) -> Result<(), AllocError>
 }
 
 /// Appends a process with its variables.
-#[tactic(auto, unfolding(crate::specs::FirstDocuments::process_text))]
+#[tactic(auto, unfolding(crate::specs::DocumentParts::process_text))]
 fn push_process(out: &mut Vec<u8>, process: &Process) -> Result<(), AllocError>
     ensures { OnOk result (out.new.items ≡ out.old.items ++ process_text (process_view process.now)) }
 {
@@ -48,7 +48,7 @@ fn push_process(out: &mut Vec<u8>, process: &Process) -> Result<(), AllocError>
 }
 
 /// Appends processes, each on a line of its own.
-#[tactic(auto, unfolding(crate::specs::FirstDocuments::processes_text))]
+#[tactic(auto, unfolding(crate::specs::DocumentParts::processes_text))]
 fn push_processes(out: &mut Vec<u8>, processes: &[Process]) -> Result<(), AllocError>
     ensures { OnOk result (out.new.items ≡ out.old.items ++ processes_text (map process_view processes.now)) }
 {
@@ -109,7 +109,7 @@ fn push_version(out: &mut Vec<u8>, copied: bool) -> Result<(), AllocError>
 ///
 /// # Errors
 /// Out of memory.
-#[tactic(auto, unfolding(crate::specs::FirstDocuments::first_document))]
+#[tactic(auto, unfolding(crate::specs::DocumentParts::first_document))]
 pub(crate) fn first_document(alloc: Global, processes: &[Process]) -> Result<Vec<u8>, AllocError>
     ensures { IfOk result (λ text. text.items ≡ first_document (map process_view processes.now)) }
 {

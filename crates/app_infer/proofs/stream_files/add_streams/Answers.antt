@@ -2,7 +2,8 @@
 use Rattle.std.proofs.Common.{Bor, List, ℕ, map, subst}
 use Rattle.std.proofs.lemmas.List.{take_all}
 use Rattle.std.specs.List.{AllZip}
-use Rattle.app_infer.specs.Inferences.{IsSaidIn}
+use Rattle.app_infer.specs.Outcomes.{IsSaidIn}
+use Rattle.judge_infer.specs.Inferred.{fault_words}
 use Rattle.judge_infer.specs.Views.{stream_fault_view}
 use Rattle.app_infer.proofs.StreamsRead.{refused_at, said_on}
 use Rattle.app_infer.proofs.stream_files.add_streams.Goals as goal
@@ -16,7 +17,8 @@ returns-clause-added g c =
 pub returns-in-Ok-Some-clause-refused : goal.returns-in-Ok-Some-clause-refused
 returns-in-Ok-Some-clause-refused g c =
     refused_at (g.Y.Files.FileSource.file_of c.args.world.now.files.now) (λ (name : Bor (List ℕ)). name.now)
-    c.args.names.now c.loop-place.session c.loop-place.place _ (stream_fault_view c.in-Ok-Some.fault)
+    c.args.names.now c.loop-place.session c.loop-place.place _
+    (fault_words (stream_fault_view c.in-Ok-Some.fault))
     c.loop-place-test.true c.loop-place.invariant
     (rw c.in-Ok-Some.field-0-is at c.in-Ok-Some.ensures.refused)
 

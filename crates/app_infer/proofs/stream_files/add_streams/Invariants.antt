@@ -1,7 +1,7 @@
 -- What the streams so far say.
 use Rattle.std.proofs.Common.{map, take}
 use Rattle.std.specs.List.{AllZip}
-use Rattle.app_infer.specs.Inferences.{IsSaidIn}
+use Rattle.app_infer.specs.Outcomes.{IsSaidIn}
 use Rattle.app_infer.proofs.stream_files.add_streams.Given as goal
 
 abbrev pub invariant-loop-place : goal.invariant-loop-place

@@ -2,7 +2,7 @@
 use Rattle.std.proofs.Common.{◌∙◌, sym, map}
 use Rattle.std.specs.Str.{bytes_eq}
 use Rattle.pd_pred.proofs.Positions.{position-map}
-use Rattle.judge_infer.specs.Inferred.{Process}
+use Rattle.judge_infer.specs.Streams.{Process}
 use Rattle.judge_infer.specs.Views.{process_view}
 use Rattle.judge_infer.proofs.infer.place_of.Goals as goal
 

@@ -1,7 +1,8 @@
 -- The variables so far, and then those that are left.
 use Rattle.std.proofs.Common.{◌≡◌, map, drop, string_bytes}
 use Rattle.json.specs.Value.{members_view}
-use Rattle.judge_infer.specs.Inferred.{member_names, with_vars}
+use Rattle.judge_infer.specs.Inferred.{with_vars}
+use Rattle.judge_infer.specs.Streams.{member_names}
 use Rattle.judge_infer.proofs.names.add_members.Given as goal
 
 abbrev pub invariant-loop-member : goal.invariant-loop-member

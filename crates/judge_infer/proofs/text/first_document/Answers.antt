@@ -1,7 +1,7 @@
 -- The text of the first document, part by part.
 use Rattle.std.proofs.Common.{◌∙◌, ◌++◌, ℕ, List, [], ap, map}
 use Rattle.std.specs.Prelude.{Bool, codes}
-use Rattle.judge_infer.specs.FirstDocuments.{first_document, is_copied, predicates_text, processes_text, version_text}
+use Rattle.judge_infer.specs.DocumentParts.{first_document, is_copied, predicates_text, processes_text, version_text}
 use Rattle.judge_infer.specs.Views.{process_view}
 use Rattle.judge_infer.proofs.Parts.{six_parts}
 use Rattle.judge_infer.proofs.text.first_document.Goals as goal

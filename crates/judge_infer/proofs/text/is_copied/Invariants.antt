@@ -1,7 +1,7 @@
 -- The ids of the processes so far.
 use Rattle.std.proofs.Common.{◌≡◌, ℕ, List, Bor, map, take}
 use Rattle.std.specs.Prelude.{flat_map}
-use Rattle.judge_infer.specs.Inferred.{Process}
+use Rattle.judge_infer.specs.Streams.{Process}
 use Rattle.judge_infer.specs.Views.{process_view}
 use Rattle.judge_infer.proofs.text.is_copied.Given as goal
 

@@ -2,7 +2,7 @@
 use Rattle.std.proofs.Common.{◌∙◌, ◌++◌, ℕ, List, ap, map}
 use Rattle.std.specs.Prelude.{String, codes, string_bytes}
 use Rattle.std.specs.Global.{Global}
-use Rattle.judge_infer.specs.FirstDocuments.{process_text, vars_text}
+use Rattle.judge_infer.specs.DocumentParts.{process_text, vars_text}
 use Rattle.judge_infer.proofs.Parts.{five_parts}
 use Rattle.judge_infer.proofs.text.push_process.Goals as goal
 

@@ -1,7 +1,7 @@
 -- The processes after the first one so far.
 use Rattle.std.proofs.Common.{◌≡◌, ◌++◌, map, take, codes}
 use Rattle.std.specs.Prelude.{flat_map}
-use Rattle.judge_infer.specs.FirstDocuments.{process_text}
+use Rattle.judge_infer.specs.DocumentParts.{process_text}
 use Rattle.judge_infer.specs.Views.{process_view}
 use Rattle.judge_infer.proofs.text.push_processes.Given as goal
 

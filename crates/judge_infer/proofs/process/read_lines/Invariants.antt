@@ -3,7 +3,7 @@ use Rattle.std.proofs.Common.{◌≡◌, ◌≤◌, ◌+◌, length}
 use Rattle.def_format.specs.Lines.{all_lines}
 use Rattle.judge_infer.specs.Inferred.{after_lines, fresh}
 use Rattle.judge_infer.specs.Views.{stage_view}
-use Rattle.judge_infer.proofs.said.read_lines.Given as goal
+use Rattle.judge_infer.proofs.process.read_lines.Given as goal
 
 abbrev pub invariant-lines : goal.invariant-lines
 invariant-lines l = record {

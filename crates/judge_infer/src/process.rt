@@ -1,11 +1,11 @@
 //! What a stream says of its process.
 ghost use Rattle.def_format.specs.Lines.{all_lines};
-ghost use Rattle.judge_infer.specs.Inferred.{after_lines, fresh, process_of, said};
+ghost use Rattle.judge_infer.specs.Inferred.{after_lines, fresh, process_of, stream_process};
 ghost use Rattle.judge_infer.specs.Views.{IsDueBy, process_view, stage_view};
 ghost use Rattle.std.specs.Prelude.{◌≡◌};
 
 use super::AddFault;
-use super::fault::{Wrong, refused_whole};
+use super::fault::{Wrong, stream_fault};
 use super::lines::first_line;
 use super::stage::Stage;
 use def_format::STREAM_BYTE_LIMIT;
@@ -59,7 +59,7 @@ fn process_of(stage: Stage) -> Result<Process, AddFault>
             vars,
             received,
         }),
-        None => Err(refused_whole(Wrong::NoLine)),
+        None => Err(stream_fault(Wrong::NoLine)),
     }
 }
 
@@ -67,12 +67,12 @@ fn process_of(stage: Stage) -> Result<Process, AddFault>
 ///
 /// # Errors
 /// The first fault, or out of memory.
-#[tactic(auto, unfolding(crate::specs::Inferred::said))]
-pub(crate) fn said(alloc: Global, bytes: &[u8]) -> Result<Process, AddFault>
-    ensures { IsDueBy process_view (said bytes.now) result }
+#[tactic(auto, unfolding(crate::specs::Inferred::stream_process))]
+pub(crate) fn read_process(alloc: Global, bytes: &[u8]) -> Result<Process, AddFault>
+    ensures { IsDueBy process_view (stream_process bytes.now) result }
 {
     if bytes.len() as u64 > STREAM_BYTE_LIMIT {
-        return Err(refused_whole(Wrong::StreamTooLong));
+        return Err(stream_fault(Wrong::StreamTooLong));
     }
     let stage = read_lines(alloc, bytes)?;
     process_of(stage)
