@@ -14,7 +14,8 @@ use app_explain::{
     explain_no_predicate, explain_output, explain_refusal, explain_unread_finding,
 };
 use app_host::{FileSource, Note, System, World, check_seen};
-use app_text::{Source, in_rows, say};
+use app_text::{Source, in_rows, line_at, say, say_name};
+use def_format::STREAM_BYTE_LIMIT;
 use judge_draw::DrawOutcome;
 use judge_session::EngineFault;
 use out_picture::DrawOptions;
@@ -486,7 +487,27 @@ What to do: leave --evidence out, or name a predicate whose answer has such evid
     )
 }
 
-/// Explains why no file of a picture can be read: which can't be opened or read, or else that one has too many bytes.
+/// Says which of these files has too many bytes, of those of which it is noted what was read. It gives whether one has.
+fn put_long_file<Y: System>(
+    out: &mut Vec<u8>,
+    world: &World<'_, Y>,
+    names: &[&str],
+) -> Result<bool, AllocError> {
+    for (place, name) in names.iter().enumerate() {
+        let bytes = world.notes.stream(place).and_then(|note| note.bytes());
+        if bytes.unwrap_or(b"").len() as u64 > STREAM_BYTE_LIMIT {
+            say_name(out, name)?;
+            say(
+                out,
+                " has too many bytes: a stream may have 16777216, and a report 268435456.\n",
+            )?;
+            return Ok(true);
+        }
+    }
+    Ok(false)
+}
+
+/// Explains why no file of a picture can be read: which can't be opened or read, or else which has too many bytes.
 fn put_undrawn_files<Y: System>(
     out: &mut Vec<u8>,
     world: &World<'_, Y>,
@@ -496,11 +517,50 @@ fn put_undrawn_files<Y: System>(
     if put_unread_streams(out, world, &names.streams)? || of_document {
         return Ok(());
     }
+    if put_long_file(out, world, &names.streams)? {
+        return Ok(());
+    }
     say(
         out,
         "One of the files has too many bytes: a report may have 268435456, and a stream that is drawn without a \
 report 16777216.\n",
     )
+}
+
+/// Says which of the streams of a picture is a report, if one is. It gives whether that is so.
+fn put_report_as_stream<Y: System>(
+    out: &mut Vec<u8>,
+    world: &World<'_, Y>,
+    names: &[&str],
+) -> Result<bool, AllocError> {
+    for (place, name) in names.iter().enumerate() {
+        let bytes = world.notes.stream(place).and_then(|note| note.bytes());
+        let line = line_at(bytes.unwrap_or(b""), 1);
+        if line.starts_with(b"session ") || line.starts_with(b"refused ") {
+            say_name(out, name)?;
+            say(
+                out,
+                " stands in the place of a stream, and is a report by its first line.\n\
+What to do: give the report first, and after it as many streams as the document has processes; or leave it out, and \
+give the streams alone.\n",
+            )?;
+            return Ok(true);
+        }
+    }
+    Ok(false)
+}
+
+/// Explains why the session that is to be drawn is refused.
+fn put_refused_drawing<Y: System>(
+    out: &mut Vec<u8>,
+    world: &World<'_, Y>,
+    names: &SessionNames<'_>,
+    refusal: &Refusal,
+) -> Result<(), AllocError> {
+    if put_report_as_stream(out, world, &names.streams)? {
+        return Ok(());
+    }
+    put_refusal(out, world, names, refusal)
 }
 
 /// Explains how a run that draws ended. The report that is due is there if it was drawn.
@@ -516,7 +576,7 @@ fn put_drawing<Y: System>(
         (Ok(DrawOutcome::NoPredicate), _) => put_undrawn(out, world, scope, names),
         (Ok(DrawOutcome::NoEvidence), _) => explain_no_evidence(out),
         (Ok(DrawOutcome::Refused(_)), Some(Report::Refused(refusal))) => {
-            put_refusal(out, world, names, refusal)
+            put_refused_drawing(out, world, names, refusal)
         }
         (Ok(DrawOutcome::Refused(_)), _) => explain_no_picture(out),
         (Ok(DrawOutcome::Written | DrawOutcome::CycleWritten), _) => Ok(()),
