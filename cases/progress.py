@@ -30,22 +30,24 @@ GENERATE = os.path.join(HERE, "..", "bench", "generate.py")
 LOAD, LAST, LAST_LINE = "heavy", 496, b'{"end": true}\n'
 TRIES, PATIENCE = 5, 1.1
 CLEARED = b"\r\x1b[K"
+# A line that is longer than a row of the terminal ends with the row.
+START, END_OF_LINE = CLEARED + b"\x1b[?7l", b"\x1b[?7h"
 # What is explained of the answer about the bundle.
 EXPLAINED = (b"`high` cannot happen, whatever the messages are: it is false for all values that\n"
              b"  `a` has at any time.\n")
-BYTES = re.compile(rb"\r\x1b\[Kreading: \d+\.\d( of \d+\.\d)? MB")
-LEVEL = re.compile(rb"\r\x1b\[Klevel (\d+) of (\d+): \d+ cuts")
+BYTES = re.compile(re.escape(START) + rb"(reading: \d+\.\d(?: of \d+\.\d)? MB)" + re.escape(END_OF_LINE))
+LEVEL = re.compile(re.escape(START) + rb"level (\d+) of (\d+): \d+ cuts" + re.escape(END_OF_LINE))
 
 
 class Terminal:
-    """A run of the program whose errors go to a terminal, and what is shown there."""
+    """A run of the program whose errors go to a terminal of this kind, and what is shown there."""
 
-    def __init__(self, program, words, **options):
+    def __init__(self, program, words, kind="xterm", **options):
         self.shown = b""
         here, there = pty.openpty()
         tty.setraw(there)
         self.run = subprocess.Popen([program, *words], stdin=subprocess.PIPE, stdout=subprocess.PIPE, stderr=there,
-                                    **options)
+                                    env={**os.environ, "TERM": kind}, **options)
         os.close(there)
         self.reader = threading.Thread(target=self.read, args=(here,))
         self.reader.start()
@@ -117,7 +119,7 @@ def counted_bytes(program):
 
 
 def shown_bytes(terminal):
-    return [line[0] for line in BYTES.finditer(terminal.shown)]
+    return [line[1] for line in BYTES.finditer(terminal.shown)]
 
 
 def sizes_of_files(program):
@@ -136,7 +138,7 @@ def sizes_of_files(program):
         output, status = terminal.end()
     yield "the status", status, 1
     yield "the report", output, b"refused stream 1 line 2 json\n"
-    yield "what is shown", {line[4:] for line in shown_bytes(terminal)}, {b"reading: 0.0 of 3.0 MB"}
+    yield "what is shown", set(shown_bytes(terminal)), {b"reading: 0.0 of 3.0 MB"}
 
 
 def opened(path, run):
@@ -229,6 +231,19 @@ def served(program, document, count):
     sys.exit("progress: no server listens")
 
 
+def dumb_terminal(program):
+    """A terminal whose lines can't be written over shows nothing but what is explained."""
+    for kind in ("dumb", ""):
+        terminal = Terminal(program, [], kind)
+        write = to_input(terminal)
+        write(DOCUMENT + JOIN)
+        until = time.time() + PATIENCE + 0.2
+        send_slowly(terminal, write, EVENT, lambda: time.time() > until)
+        _, status = terminal.end(END)
+        yield "the status", status, 0
+        yield "what is shown", terminal.shown, EXPLAINED
+
+
 def short_run(program):
     """A run that takes less than a second shows nothing."""
     terminal = Terminal(program, ["--version"])
@@ -244,7 +259,7 @@ def main():
     if not os.access(program, os.X_OK):
         sys.exit(f"progress: no program {program}")
     cases = (slow_bundle, counted_bytes, sizes_of_files, long_walk, long_walk_of_files, long_walk_of_connections,
-             short_run)
+             dumb_terminal, short_run)
     differing = 0
     for case in cases:
         found = [(what, given, wanted) for what, given, wanted in case(program) if given != wanted]

@@ -14,6 +14,9 @@ const PAUSE: u64 = 100;
 const TENTH: u64 = 100_000;
 
 /// The line of a terminal that is written over, and what it says; or none, which says nothing and asks no clock.
+///
+/// The line is written with the terminal's wrapping off, and so ends with the row of a narrow one: what went on in the
+/// next row wouldn't be cleared.
 #[derive(Drop)]
 pub struct Screen<'a, R> {
     rt: &'a R,
@@ -96,11 +99,11 @@ impl<'a, R: Clock + Eprint> Screen<'a, R> {
         let whole = self.whole.load(Ordering::SeqCst);
         let (units, tenths) = (read / TENTH / 10, read / TENTH % 10);
         if whole < read {
-            let _ = eprint!(self.rt; "\r\u{1b}[Kreading: {units}.{tenths} MB");
+            let _ = eprint!(self.rt; "\r\u{1b}[K\u{1b}[?7lreading: {units}.{tenths} MB\u{1b}[?7h");
         } else {
             let (of_units, of_tenths) = (whole / TENTH / 10, whole / TENTH % 10);
             let _ = eprint!(self.rt;
-                "\r\u{1b}[Kreading: {units}.{tenths} of {of_units}.{of_tenths} MB"
+                "\r\u{1b}[K\u{1b}[?7lreading: {units}.{tenths} of {of_units}.{of_tenths} MB\u{1b}[?7h"
             );
         }
     }
@@ -121,7 +124,9 @@ impl<'a, R: Clock + Eprint> Screen<'a, R> {
                 cuts,
                 is_whole: _,
             } = level;
-            let _ = eprint!(self.rt; "\r\u{1b}[Klevel {number} of {last}: {cuts} cuts");
+            let _ = eprint!(self.rt;
+                "\r\u{1b}[K\u{1b}[?7llevel {number} of {last}: {cuts} cuts\u{1b}[?7h"
+            );
         }
     }
 

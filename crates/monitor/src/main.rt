@@ -3,7 +3,7 @@
 #![tactic(auto)]
 
 use app_progress::{Cleared, Screen, ShownFile, ShownFiles};
-use std::env::Env;
+use std::env::{Env, FillError};
 use std::io::{IsTerminal, Write};
 use std::process::ExitCode;
 use std::{env, fs, io};
@@ -44,6 +44,19 @@ fn is_explained(rt: &HostRuntime) -> bool {
     }
 }
 
+/// The variable of the environment that names the kind of the terminal.
+const KIND: &str = "TERM";
+
+/// Whether a line of the terminal can be written over: it has a kind, which isn't `dumb`. It takes no memory.
+fn can_write_over(rt: &HostRuntime) -> bool {
+    let mut value = [0u8; 8];
+    match rt.var(KIND, &mut value) {
+        Ok(0) | Err(FillError::NotPresent) => false,
+        Ok(4) => value[0] != b'd' || value[1] != b'u' || value[2] != b'm' || value[3] != b'b',
+        Ok(_) | Err(FillError::TooLong) => true,
+    }
+}
+
 /// What is opened in the place of a standard descriptor that was closed: it can be neither read nor written.
 const NOTHING: &str = "/";
 
@@ -67,7 +80,7 @@ fn main(rt: HostRuntime) -> ExitCode {
                 let _ = errors.write_all(INPUT_TWICE);
                 return ExitCode::from(2);
             }
-            let screen = Screen::new(&rt, errors.is_terminal());
+            let screen = Screen::new(&rt, errors.is_terminal() && can_write_over(&rt));
             pd_cli::run(
                 &rt,
                 &ShownFiles::new(&rt, &screen),
