@@ -1,7 +1,7 @@
 -- What is written of a text is escaped.
 use Rattle.std.proofs.Common.{◌≡◌, ℕ, Bool, true, false, List, [], ◌∷◌, ◌++◌, refl}
-use Rattle.std.specs.Prelude.{◌==◌, ◌&&◌, not, if◌then◌else◌, codes}
-use Rattle.out_svg.specs.Escapes.{IsEscaped, none, plain, ampersand, less, greater, quote, apostrophe, is_control, is_plain, ends_no_character, escape, escaped_after, replacement}
+use Rattle.std.specs.Prelude.{◌==◌, ◌&&◌, not, if◌then◌else◌, codes, nat_le}
+use Rattle.out_svg.specs.Escapes.{IsEscaped, none, plain, ampersand, less, greater, quote, apostrophe, is_control, is_plain, escape, escaped_after}
 
 -- what is written of a byte, by its tests
 abbrev chosen : (a b c d e f g : Bool) → ℕ → List ℕ
@@ -11,7 +11,7 @@ chosen a b c d e f g byte =
     if c then codes "&gt;" else (
     if d then codes "&quot;" else (
     if e then codes "&#39;" else (
-    if f then replacement else (
+    if f then 239 ∷ 191 ∷ 189 ∷ [] else (
     if g then 189 ∷ [] else byte ∷ []))))))
 
 chosen_is : (a b c d e f g : Bool) (byte : ℕ) (rest : List ℕ)
@@ -31,7 +31,7 @@ escaped_from : (earlier last : ℕ) (text : List ℕ) → IsEscaped (escaped_aft
 escaped_from earlier last [] = none
 escaped_from earlier last (byte ∷ rest) =
     chosen_is (byte == 38) (byte == 60) (byte == 62) (byte == 34) (byte == 39) (is_control byte)
-    (ends_no_character earlier last byte) byte (escaped_after last byte rest) refl (escaped_from last byte rest)
+    (earlier == 239 && last == 191 && nat_le 190 byte && nat_le byte 191) byte (escaped_after last byte rest) refl (escaped_from last byte rest)
 
 -- whatever the text
 pub is_escaped : (text : List ℕ) → IsEscaped (escape text)

@@ -1,2 +1,3 @@
 -- The modules of lemmas of this crate.
 pub mod Escaping
+pub mod Parts

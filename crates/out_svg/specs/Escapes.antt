@@ -3,29 +3,21 @@ use Rattle.std.specs.Prelude.{ℕ, Bool, not, ◌&&◌, ◌||◌, ◌==◌, nat_
 
 -- ---- what is written
 
--- a character that XML has no way to hold
-abbrev pub replacement : List ℕ
-replacement = 239 ∷ 191 ∷ 189 ∷ []
-
 -- the bytes below 32, and 127
 abbrev pub is_control : ℕ → Bool
 is_control byte = nat_le byte 31 || byte == 127
 
--- The last byte of one of the two characters that begin with 239 and 191 and that XML doesn't hold, U+FFFE and U+FFFF.
--- The two bytes before it are given.
-abbrev pub ends_no_character : ℕ → ℕ → ℕ → Bool
-ends_no_character earlier last byte = earlier == 239 && last == 191 && nat_le 190 byte && nat_le byte 191
-
--- a byte of a text, which stands after these two bytes of it
-abbrev pub escaped_byte : ℕ → ℕ → ℕ → List ℕ
+-- A byte of a text, which stands after these two bytes of it. A control character becomes U+FFFD, and so do U+FFFE and
+-- U+FFFF, which XML doesn't hold: their bytes are 239, 191, and 190 or 191.
+abbrev pub escaped_byte : (earlier last byte : ℕ) → List ℕ
 escaped_byte earlier last byte =
     if byte == 38 then codes "&amp;" else (
     if byte == 60 then codes "&lt;" else (
     if byte == 62 then codes "&gt;" else (
     if byte == 34 then codes "&quot;" else (
     if byte == 39 then codes "&#39;" else (
-    if is_control byte then replacement else (
-    if ends_no_character earlier last byte then 189 ∷ [] else byte ∷ []))))))
+    if is_control byte then 239 ∷ 191 ∷ 189 ∷ [] else (
+    if earlier == 239 && last == 191 && nat_le 190 byte && nat_le byte 191 then 189 ∷ [] else byte ∷ []))))))
 
 abbrev pub escaped_after : ℕ → ℕ → List ℕ → List ℕ
 escaped_after earlier last [] = []

@@ -1,5 +1,5 @@
 -- The text of a drawing: an SVG element. Each text that is put into it is escaped.
-use Rattle.std.specs.Prelude.{ℕ, List, [], ◌∷◌, ◌++◌, codes, decimal, flat_map, string_bytes}
+use Rattle.std.specs.Prelude.{ℕ, List, ◌++◌, codes, decimal, flat_map, string_bytes}
 use Rattle.out_svg.specs.Escapes.{escape}
 use Rattle.out_svg.specs.declared.anchor.Anchor.{Anchor}
 use Rattle.out_svg.specs.declared.anchor.Anchor.TheVariants as anchor
@@ -9,10 +9,15 @@ use Rattle.out_svg.specs.declared.drawing.Drawing.{Drawing}
 use Rattle.out_svg.specs.declared.point.Point.{Point}
 use Rattle.out_svg.specs.declared.shape.Shape.{Shape}
 use Rattle.out_svg.specs.declared.shape.Shape.TheVariants.{Line, Arrow, Circle, Polyline, Text}
+use Rattle.out_svg.specs.declared.style.TheConstants.{STYLE}
 
 -- ` name="value"`; the value holds no mark-up
-unfoldable pub attribute : List ℕ → List ℕ → List ℕ
+unfoldable pub attribute : (name value : List ℕ) → List ℕ
 attribute name value = codes " " ++ name ++ codes "=\"" ++ value ++ codes "\""
+
+-- two numbers, as attributes of these names
+unfoldable pub pair : (x y : List ℕ) → ℕ → ℕ → List ℕ
+pair x y a b = attribute x (decimal a) ++ attribute y (decimal b)
 
 abbrev pub class_name : Class → List ℕ
 class_name Process = codes "process"
@@ -35,127 +40,53 @@ anchor_word anchor.End = codes "end"
 
 -- ---- shapes
 
-unfoldable pub ends_text : Class → Point → Point → List ℕ
-ends_text class from to =
-    attribute (codes "class") (class_name class) ++ attribute (codes "x1") (decimal from.x)
-    ++ attribute (codes "y1") (decimal from.y) ++ attribute (codes "x2") (decimal to.x)
-    ++ attribute (codes "y2") (decimal to.y)
+-- the beginning of an element of this tag and class
+unfoldable pub opened : (tag : List ℕ) → Class → List ℕ
+opened tag class = codes "<" ++ tag ++ attribute (codes "class") (class_name class)
 
-unfoldable pub circle_text : Class → Point → ℕ → List ℕ
-circle_text class centre radius =
-    attribute (codes "class") (class_name class) ++ attribute (codes "cx") (decimal centre.x)
-    ++ attribute (codes "cy") (decimal centre.y) ++ attribute (codes "r") (decimal radius)
+unfoldable pub ends_text : (from to : Point) → List ℕ
+ends_text from to = pair (codes "x1") (codes "y1") from.x from.y ++ pair (codes "x2") (codes "y2") to.x to.y
 
 abbrev pub point_text : Point → List ℕ
 point_text point = codes " " ++ decimal point.x ++ codes "," ++ decimal point.y
 
-abbrev pub points_text : List Point → List ℕ
-points_text points = flat_map point_text points
-
-unfoldable pub polyline_text : Class → List Point → List ℕ
-polyline_text class points =
-    attribute (codes "class") (class_name class) ++ codes " points=\"" ++ points_text points ++ codes "\""
-
-unfoldable pub place_text : Class → Point → List ℕ
-place_text class at =
-    attribute (codes "class") (class_name class) ++ attribute (codes "x") (decimal at.x)
-    ++ attribute (codes "y") (decimal at.y)
-
-unfoldable pub text_text : Class → Point → Anchor → ℕ → List ℕ
-text_text class at anchor size =
-    place_text class at ++ attribute (codes "text-anchor") (anchor_word anchor)
-    ++ attribute (codes "font-size") (decimal size)
-
 -- the element of a shape, and an LF
 abbrev pub shape_text : Shape → List ℕ
-shape_text (Line class from to) = codes "<line" ++ ends_text class from to ++ codes "/>\n"
+shape_text (Line class from to) = opened (codes "line") class ++ ends_text from to ++ codes "/>\n"
 shape_text (Arrow class from to) =
-    codes "<line" ++ ends_text class from to ++ attribute (codes "marker-end") (codes "url(#head)") ++ codes "/>\n"
-shape_text (Circle class centre radius) = codes "<circle" ++ circle_text class centre radius ++ codes "/>\n"
-shape_text (Polyline class points) = codes "<polyline" ++ polyline_text class points.items ++ codes "/>\n"
+    opened (codes "line") class ++ ends_text from to ++ attribute (codes "marker-end") (codes "url(#head)")
+    ++ codes "/>\n"
+shape_text (Circle class centre radius) =
+    opened (codes "circle") class ++ pair (codes "cx") (codes "cy") centre.x centre.y
+    ++ attribute (codes "r") (decimal radius) ++ codes "/>\n"
+shape_text (Polyline class points) =
+    opened (codes "polyline") class ++ attribute (codes "points") (flat_map point_text points.items) ++ codes "/>\n"
 shape_text (Text class at anchor size text) =
-    codes "<text" ++ text_text class at anchor size ++ codes ">" ++ escape (string_bytes text) ++ codes "</text>\n"
-
-abbrev pub shapes_text : List Shape → List ℕ
-shapes_text shapes = flat_map shape_text shapes
-
--- ---- the style
-
-abbrev pub declarations : Class → List ℕ
-declarations Process = codes "stroke:#767676;stroke-width:1"
-declarations Past = codes "fill:#000;stroke:#000;stroke-width:2"
-declarations Next = codes "fill:#fff;stroke:#000;stroke-width:2"
-declarations Message = codes "stroke:#0072b2;stroke-width:2"
-declarations Flight = codes "stroke:#0072b2;stroke-width:2;stroke-dasharray:7 5"
-declarations Beyond = codes "fill:#fff;stroke:#0072b2;stroke-width:2"
-declarations Cut = codes "fill:none;stroke:#d55e00;stroke-width:4;stroke-linejoin:round"
-declarations Number = codes "fill:#595959;stroke:#fff;stroke-width:4;paint-order:stroke"
-declarations Step = codes "fill:#006b4f;font-weight:bold;stroke:#fff;stroke-width:4;paint-order:stroke"
-declarations Value = codes "fill:#a84a00;font-weight:bold;stroke:#fff;stroke-width:4;paint-order:stroke"
-declarations Name = codes "fill:#000;font-weight:bold"
-declarations Note = codes "fill:#000"
-
-abbrev pub class_rule : Class → List ℕ
-class_rule class = codes "." ++ class_name class ++ codes "{" ++ declarations class ++ codes "}\n"
-
-abbrev pub classes_rules : List Class → List ℕ
-classes_rules classes = flat_map class_rule classes
-
-abbrev pub all_classes : List Class
-all_classes =
-    Process ∷ Past ∷ Next ∷ Message ∷ Flight ∷ Beyond ∷ Cut ∷ Number ∷ Step ∷ Value ∷ Name ∷ Note ∷ []
-
--- the rules of what has no class
-unfoldable pub style_start : List ℕ
-style_start =
-    codes "<style>\ntext{font-family:DejaVu Sans,Verdana,Arial,sans-serif}\n"
-    ++ codes "@page{size:landscape}\n@media print{svg{width:100%;height:auto;max-height:100vh}}\n"
-    ++ codes ".page{fill:#fff}\n.head{fill:#0072b2}\n"
-
-abbrev pub style_text : List ℕ
-style_text = style_start ++ classes_rules all_classes ++ codes "</style>\n"
+    opened (codes "text") class ++ pair (codes "x") (codes "y") at.x at.y
+    ++ attribute (codes "text-anchor") (anchor_word anchor) ++ attribute (codes "font-size") (decimal size)
+    ++ codes ">" ++ escape (string_bytes text) ++ codes "</text>\n"
 
 -- ---- the whole
 
-unfoldable pub root_start : List ℕ
-root_start = codes "<svg xmlns=\"http://www.w3.org/2000/svg\""
-
-unfoldable pub root_end : List ℕ
-root_end = codes " role=\"img\" aria-labelledby=\"title description\">\n"
-
-unfoldable pub view_start : List ℕ
-view_start = codes " viewBox=\"0 0 "
-
--- the part of the plane that the picture shows, after the beginning of its attribute
-unfoldable pub view_box : List ℕ → ℕ → ℕ → List ℕ
-view_box beginning width height = beginning ++ decimal width ++ codes " " ++ decimal height ++ codes "\""
-
-abbrev pub root_text : ℕ → ℕ → List ℕ
+-- the tag that opens a picture of this size
+unfoldable pub root_text : (width height : ℕ) → List ℕ
 root_text width height =
-    root_start ++ attribute (codes "width") (decimal width) ++ attribute (codes "height") (decimal height)
-    ++ view_box view_start width height ++ root_end
+    codes "<svg xmlns=\"http://www.w3.org/2000/svg\"" ++ pair (codes "width") (codes "height") width height
+    ++ attribute (codes "viewBox") (codes "0 0 " ++ decimal width ++ codes " " ++ decimal height)
+    ++ codes " role=\"img\" aria-labelledby=\"title description\">\n"
 
 -- an element of this tag and id that holds a text
 abbrev pub labelled : (tag id text : List ℕ) → List ℕ
 labelled tag id text =
     codes "<" ++ tag ++ attribute (codes "id") id ++ codes ">" ++ escape text ++ codes "</" ++ tag ++ codes ">\n"
 
--- the head of arrows
-unfoldable pub head_text : List ℕ
-head_text =
-    codes "<defs><marker id=\"head\" viewBox=\"0 0 10 10\" refX=\"10\" refY=\"5\" "
-    ++ codes "markerWidth=\"10\" markerHeight=\"10\" markerUnits=\"userSpaceOnUse\" "
-    ++ codes "orient=\"auto\"><path class=\"head\" d=\"M0 0L10 5L0 10z\"/></marker></defs>\n"
+-- how each class is drawn, and the head of arrows: the same in all pictures
+unfoldable pub style_text : List ℕ
+style_text = STYLE.now
 
-abbrev pub page_text : ℕ → ℕ → List ℕ
-page_text width height =
-    codes "<rect class=\"page\"" ++ attribute (codes "width") (decimal width)
-    ++ attribute (codes "height") (decimal height) ++ codes "/>\n"
-
-abbrev pub drawing_text : Drawing → List ℕ
+unfoldable pub drawing_text : Drawing → List ℕ
 drawing_text drawing =
-    root_text drawing.width drawing.height
-    ++ labelled (codes "title") (codes "title") (string_bytes drawing.title)
-    ++ labelled (codes "desc") (codes "description") (string_bytes drawing.description)
-    ++ style_text ++ head_text ++ page_text drawing.width drawing.height ++ shapes_text drawing.shapes.items
-    ++ codes "</svg>\n"
+    root_text drawing.width drawing.height ++ labelled (codes "title") (codes "title") (string_bytes drawing.title)
+    ++ labelled (codes "desc") (codes "description") (string_bytes drawing.description) ++ style_text
+    ++ (codes "<rect class=\"page\"" ++ pair (codes "width") (codes "height") drawing.width drawing.height
+    ++ codes "/>\n") ++ flat_map shape_text drawing.shapes.items ++ codes "</svg>\n"

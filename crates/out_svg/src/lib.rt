@@ -10,9 +10,9 @@
 //! - `shape`: one shape
 //! - `drawing`: the whole
 //! - `escape`: texts without mark-up
-//! - `tags`: attributes of elements
+//! - `tags`: the beginning of an element, and its attributes
 //! - `shape_text`: the element of a shape
-//! - `style`: the rules by which classes are drawn
+//! - `style`: how each class is drawn: one text for all pictures
 //! - `drawing_text`: a drawing's text, also written
 #![tactic(auto)]
 

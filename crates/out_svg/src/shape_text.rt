@@ -1,32 +1,12 @@
 //! The element of a shape.
-ghost use Rattle.out_svg.specs.Svg.{anchor_word, circle_text, class_name, ends_text, place_text, point_text, points_text, polyline_text, shape_text, shapes_text, text_text};
-ghost use Rattle.std.specs.Prelude.{◌≡◌, ◌++◌, OnOk};
+ghost use Rattle.out_svg.specs.Svg.{anchor_word, attribute, ends_text, pair, point_text, shape_text};
+ghost use Rattle.std.specs.Prelude.{◌≡◌, ◌++◌, codes, decimal, flat_map, OnOk};
 
 use super::escape::push_escaped;
-use super::tags::{push_attribute, push_length};
-use super::{Anchor, Class, Point, Shape};
+use super::tags::{push_attribute, push_length, push_opened, push_pair};
+use super::{Anchor, Point, Shape};
 use pd_report::{push_bytes, push_number};
 use std::alloc::AllocError;
-
-/// The name of a class.
-pub(crate) fn class_name(class: Class) -> &'static [u8]
-    ensures { result.now ≡ class_name class }
-{
-    match class {
-        Class::Process => b"process",
-        Class::Past => b"past",
-        Class::Next => b"next",
-        Class::Message => b"message",
-        Class::Flight => b"flight",
-        Class::Beyond => b"beyond",
-        Class::Cut => b"cut",
-        Class::Number => b"number",
-        Class::Step => b"step",
-        Class::Value => b"value",
-        Class::Name => b"name",
-        Class::Note => b"note",
-    }
-}
 
 /// The word for an anchor.
 fn anchor_word(anchor: Anchor) -> &'static [u8]
@@ -39,32 +19,13 @@ fn anchor_word(anchor: Anchor) -> &'static [u8]
     }
 }
 
-/// Appends the attributes of a line: its class and its ends.
+/// Appends the ends of a line.
 #[tactic(auto, unfolding(crate::specs::Svg::ends_text))]
-fn push_ends(out: &mut Vec<u8>, class: Class, from: Point, to: Point) -> Result<(), AllocError>
-    ensures { OnOk result (out.new.items ≡ out.old.items ++ ends_text class from to) }
+fn push_ends(out: &mut Vec<u8>, from: Point, to: Point) -> Result<(), AllocError>
+    ensures { OnOk result (out.new.items ≡ out.old.items ++ ends_text from to) }
 {
-    push_attribute(out, b"class", class_name(class))?;
-    push_length(out, b"x1", from.x)?;
-    push_length(out, b"y1", from.y)?;
-    push_length(out, b"x2", to.x)?;
-    push_length(out, b"y2", to.y)
-}
-
-/// Appends the attributes of a circle.
-#[tactic(auto, unfolding(crate::specs::Svg::circle_text))]
-fn push_circle(
-    out: &mut Vec<u8>,
-    class: Class,
-    centre: Point,
-    radius: u32,
-) -> Result<(), AllocError>
-    ensures { OnOk result (out.new.items ≡ out.old.items ++ circle_text class centre radius) }
-{
-    push_attribute(out, b"class", class_name(class))?;
-    push_length(out, b"cx", centre.x)?;
-    push_length(out, b"cy", centre.y)?;
-    push_length(out, b"r", radius)
+    push_pair(out, b"x1", b"y1", from.x, from.y)?;
+    push_pair(out, b"x2", b"y2", to.x, to.y)
 }
 
 /// Appends a point.
@@ -79,7 +40,7 @@ fn push_point(out: &mut Vec<u8>, point: Point) -> Result<(), AllocError>
 
 /// Appends points, each after a space.
 fn push_points(out: &mut Vec<u8>, points: &[Point]) -> Result<(), AllocError>
-    ensures { OnOk result (out.new.items ≡ out.old.items ++ points_text points.now) }
+    ensures { OnOk result (out.new.items ≡ out.old.items ++ flat_map point_text points.now) }
 {
     for point in points {
         push_point(out, *point)?;
@@ -87,39 +48,23 @@ fn push_points(out: &mut Vec<u8>, points: &[Point]) -> Result<(), AllocError>
     Ok(())
 }
 
-/// Appends the attributes of a line through points.
-#[tactic(auto, unfolding(crate::specs::Svg::polyline_text))]
-fn push_polyline(out: &mut Vec<u8>, class: Class, points: &[Point]) -> Result<(), AllocError>
-    ensures { OnOk result (out.new.items ≡ out.old.items ++ polyline_text class points.now) }
+/// Appends the points of a line, as an attribute.
+#[tactic(auto, unfolding(crate::specs::Svg::attribute))]
+fn push_polyline(out: &mut Vec<u8>, points: &[Point]) -> Result<(), AllocError>
+    ensures { OnOk result (out.new.items ≡ out.old.items
+        ++ attribute (codes "points") (flat_map point_text points.now)) }
 {
-    push_attribute(out, b"class", class_name(class))?;
     push_bytes(out, b" points=\"")?;
     push_points(out, points)?;
     push_bytes(out, b"\"")
 }
 
-/// Appends the class of a text, and where it stands.
-#[tactic(auto, unfolding(crate::specs::Svg::place_text))]
-fn push_place(out: &mut Vec<u8>, class: Class, at: Point) -> Result<(), AllocError>
-    ensures { OnOk result (out.new.items ≡ out.old.items ++ place_text class at) }
-{
-    push_attribute(out, b"class", class_name(class))?;
-    push_length(out, b"x", at.x)?;
-    push_length(out, b"y", at.y)
-}
-
 /// Appends the attributes of a text.
-#[tactic(auto, unfolding(crate::specs::Svg::text_text))]
-fn push_text(
-    out: &mut Vec<u8>,
-    class: Class,
-    at: Point,
-    anchor: Anchor,
-    size: u32,
-) -> Result<(), AllocError>
-    ensures { OnOk result (out.new.items ≡ out.old.items ++ text_text class at anchor size) }
+fn push_text(out: &mut Vec<u8>, at: Point, anchor: Anchor, size: u32) -> Result<(), AllocError>
+    ensures { OnOk result (out.new.items ≡ out.old.items ++ (pair (codes "x") (codes "y") at.x at.y
+        ++ attribute (codes "text-anchor") (anchor_word anchor) ++ attribute (codes "font-size") (decimal size))) }
 {
-    push_place(out, class, at)?;
+    push_pair(out, b"x", b"y", at.x, at.y)?;
     push_attribute(out, b"text-anchor", anchor_word(anchor))?;
     push_length(out, b"font-size", size)
 }
@@ -130,13 +75,13 @@ pub(crate) fn push_shape(out: &mut Vec<u8>, shape: &Shape) -> Result<(), AllocEr
 {
     match shape {
         Shape::Line { class, from, to } => {
-            push_bytes(out, b"<line")?;
-            push_ends(out, *class, *from, *to)?;
+            push_opened(out, b"line", *class)?;
+            push_ends(out, *from, *to)?;
             push_bytes(out, b"/>\n")
         }
         Shape::Arrow { class, from, to } => {
-            push_bytes(out, b"<line")?;
-            push_ends(out, *class, *from, *to)?;
+            push_opened(out, b"line", *class)?;
+            push_ends(out, *from, *to)?;
             push_attribute(out, b"marker-end", b"url(#head)")?;
             push_bytes(out, b"/>\n")
         }
@@ -145,13 +90,14 @@ pub(crate) fn push_shape(out: &mut Vec<u8>, shape: &Shape) -> Result<(), AllocEr
             centre,
             radius,
         } => {
-            push_bytes(out, b"<circle")?;
-            push_circle(out, *class, *centre, *radius)?;
+            push_opened(out, b"circle", *class)?;
+            push_pair(out, b"cx", b"cy", centre.x, centre.y)?;
+            push_length(out, b"r", *radius)?;
             push_bytes(out, b"/>\n")
         }
         Shape::Polyline { class, points } => {
-            push_bytes(out, b"<polyline")?;
-            push_polyline(out, *class, points)?;
+            push_opened(out, b"polyline", *class)?;
+            push_polyline(out, points)?;
             push_bytes(out, b"/>\n")
         }
         Shape::Text {
@@ -161,8 +107,8 @@ pub(crate) fn push_shape(out: &mut Vec<u8>, shape: &Shape) -> Result<(), AllocEr
             size,
             text,
         } => {
-            push_bytes(out, b"<text")?;
-            push_text(out, *class, *at, *anchor, *size)?;
+            push_opened(out, b"text", *class)?;
+            push_text(out, *at, *anchor, *size)?;
             push_bytes(out, b">")?;
             push_escaped(out, text.as_str())?;
             push_bytes(out, b"</text>\n")
@@ -172,7 +118,7 @@ pub(crate) fn push_shape(out: &mut Vec<u8>, shape: &Shape) -> Result<(), AllocEr
 
 /// Appends the elements of shapes.
 pub(crate) fn push_shapes(out: &mut Vec<u8>, shapes: &[Shape]) -> Result<(), AllocError>
-    ensures { OnOk result (out.new.items ≡ out.old.items ++ shapes_text shapes.now) }
+    ensures { OnOk result (out.new.items ≡ out.old.items ++ flat_map shape_text shapes.now) }
 {
     for shape in shapes {
         push_shape(out, shape)?;

@@ -1,7 +1,8 @@
 -- What the loop of `push_shapes` keeps.
 use Rattle.std.proofs.Common.{◌≡◌, ◌++◌, take}
-use Rattle.out_svg.specs.Svg.{shapes_text}
+use Rattle.std.specs.Prelude.{flat_map}
+use Rattle.out_svg.specs.Svg.{shape_text}
 use Rattle.out_svg.proofs.shape_text.push_shapes.Given as goal
 
 abbrev pub invariant-loop-shape : goal.invariant-loop-shape
-invariant-loop-shape l = l.out.items ≡ l.initial.out.items ++ shapes_text (take l.shape-index l.shapes)
+invariant-loop-shape l = l.out.items ≡ l.initial.out.items ++ flat_map shape_text (take l.shape-index l.shapes)

@@ -1,0 +1,23 @@
+-- Parts that are written one after another.
+use Rattle.std.proofs.Common.{◌≡◌, ℕ, List, ◌++◌, ap, ◌∙◌, append_assoc}
+
+pub four_parts : (o p q r s a b c d : List ℕ) → p ≡ o ++ a → q ≡ p ++ b → r ≡ q ++ c → s ≡ r ++ d
+    → s ≡ o ++ (a ++ b ++ c ++ d)
+four_parts o p q r s a b c d first second third fourth =
+    fourth
+    ∙ ap (λ out. out ++ d) (third ∙ ap (λ out. out ++ c) (second ∙ ap (λ out. out ++ b) first))
+    ∙ simp append_assoc
+
+-- of five parts the three in the middle as one
+pub framed : (o p q r s t a b c d e : List ℕ) → p ≡ o ++ a → q ≡ p ++ b → r ≡ q ++ c → s ≡ r ++ d → t ≡ s ++ e
+    → t ≡ o ++ (a ++ (b ++ c ++ d) ++ e)
+framed o p q r s t a b c d e first second third fourth fifth =
+    fifth ∙ ap (λ out. out ++ e) (four_parts o p q r s a b c d first second third fourth) ∙ simp append_assoc
+
+pub seven_parts : (o p q r s t u v a b c d e f g : List ℕ) → p ≡ o ++ a → q ≡ p ++ b → r ≡ q ++ c → s ≡ r ++ d
+    → t ≡ s ++ e → u ≡ t ++ f → v ≡ u ++ g → v ≡ o ++ (a ++ b ++ c ++ d ++ e ++ f ++ g)
+seven_parts o p q r s t u v a b c d e f g first second third fourth fifth sixth seventh =
+    seventh
+    ∙ ap (λ out. out ++ g) (sixth ∙ ap (λ out. out ++ f) (fifth
+    ∙ ap (λ out. out ++ e) (four_parts o p q r s a b c d first second third fourth)))
+    ∙ simp append_assoc
