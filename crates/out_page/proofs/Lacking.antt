@@ -1,6 +1,6 @@
 -- The data of a page holds no `<`.
 use Rattle.std.proofs.Common.{◌≡◌, ℕ, ◌/◌, ◌%◌, Bool, true, false, List, [], ◌∷◌, ◌++◌, refl, ap, ◌∙◌, arith}
-use Rattle.std.specs.Prelude.{◌==◌, ◌&&◌, ◌||◌, not, nat_le, if◌then◌else◌, codes, decimal, flat_map, ℤ, Option, Some, None}
+use Rattle.std.specs.Prelude.{◌==◌, ◌&&◌, ◌||◌, not, nat_le, if◌then◌else◌, codes, decimal, flat_map, ℤ, unwrap_or, Option, Some, None}
 use Rattle.std.specs.List.{AllByRecursion}
 use Rattle.std.specs.Fmt.{signed_decimal}
 use Rattle.std.proofs.lemmas.Bool.Decides.{nat_tests}
@@ -8,16 +8,17 @@ use Rattle.std.proofs.lemmas.List.Folds.{list_all-append}
 use Rattle.def_model.specs.Events.{Computation, Event, Kind, Local, Send, Receive, Place}
 use Rattle.def_model.specs.Predicates.{Predicate, Always, Never, Compare, Not, And, Or, Comparison, Equals, Differs, IsLess, IsAtMost, IsGreater, IsAtLeast, Sign, Plus, Minus, Term, Number, Variable, Times}
 use Rattle.def_format.specs.Documents.{Document, NamedPredicate}
-use Rattle.def_format.specs.Names.{ProcessNames}
+use Rattle.def_format.specs.Names.{ProcessNames, process_named}
 use Rattle.def_format.specs.Reports.{Answer, Possibly, Definitely, NamedPlace}
-use Rattle.out_page.specs.AnswerData.{Answered, Cyclic, Outcome, answer_text, definitely_text, named_place_text, outcome_text, possibly_text, process_number, step_text, unknown_text}
-use Rattle.out_page.specs.EventData.{event_text, events_text, kind_text, message_text, place_text, process_text, setting_text, value_text, values_text}
-use Rattle.out_page.specs.JsonTexts.{escaped_byte, hex_digit, lacks_less, listed, quoted}
-use Rattle.out_page.specs.Pages.{data_text, limits_text, refusal_data, report_text, run_text, session_text, sources_text, truth_text}
-use Rattle.out_page.specs.ExtraData as extra
-use Rattle.out_page.specs.ExtraData.{Extras, Wish, WishKind, extras_text, kind_word, link_text, predicate_number, wish_text}
+use Rattle.out_page.specs.AnswerData.{Answered, Cyclic, Outcome, answer_text, definitely_text, named_place_text, outcome_text, possibly_text, process_number, unknown_text}
+use Rattle.out_page.specs.EventData.{event_text, events_text, kind_text, message_text, place_text, process_text, setting_text, value_text}
+use Rattle.out_page.specs.JsonTexts.{array, escaped_byte, hex_digit, lacks_less, listed, quoted}
+use Rattle.out_page.specs.Pages.{data_text, refusal_data, truth_text}
+use Rattle.out_page.specs.ExtraData.{Extras, link_text, predicate_number, wish_text}
 use Rattle.out_page.specs.SourceData.{Source, source_text}
-use Rattle.out_page.specs.PredicateData.{comparison_text, comparison_word, named_text, predicate_text, sign_text, sum_text, term_fields, term_text}
+use Rattle.out_page.specs.PredicateData.{comparison_word, joined, predicate_text, sign_text, term_fields, term_text}
+use Rattle.out_page.specs.Written.{extras_text, limits_text, named_text, report_text, run_text, session_text, sources_text}
+use Rattle.out_page.proofs.WrittenData.{data_is}
 use Rattle.out_page.proofs.Numerals.{decimal_lacks, signed_lacks}
 
 -- ---- parts
@@ -105,11 +106,6 @@ term_lacks (sign, term) =
     chain_lacks (codes "[") (sign_text sign ∷ term_fields term ∷ codes "]" ∷ []) refl
     (sign_lacks sign, (fields_lack term, (refl, tt)))
 
-sum_lacks : (terms : List (Sign × Term)) → Lacks (sum_text terms)
-sum_lacks terms =
-    chain_lacks (codes "[") (listed term_text terms ∷ codes "]" ∷ []) refl
-    (listed_lacks term_text term_lacks terms, (refl, tt))
-
 word_lacks : (comparison : Comparison) → Lacks (comparison_word comparison)
 word_lacks Equals = refl
 word_lacks Differs = refl
@@ -118,26 +114,30 @@ word_lacks IsAtMost = refl
 word_lacks IsGreater = refl
 word_lacks IsAtLeast = refl
 
-comparison_lacks : (comparison : Comparison) (left right : List (Sign × Term))
-    → Lacks (comparison_text comparison left right)
-unfolding comparison_text
-comparison_lacks comparison left right =
-    chain_lacks (codes "[\"")
-    (comparison_word comparison ∷ codes "\"," ∷ sum_text left ∷ codes "," ∷ sum_text right ∷ codes "]" ∷ []) refl
-    (word_lacks comparison, (refl, (sum_lacks left, (refl, (sum_lacks right, (refl, tt))))))
+array_lacks : {A : Type 0} (text : A → List ℕ) → ((x : A) → Lacks (text x)) → (xs : List A)
+    → Lacks (array text xs)
+array_lacks text h xs =
+    chain_lacks (codes "[") (listed text xs ∷ codes "]" ∷ []) refl (listed_lacks text h xs, (refl, tt))
+
+joined_lacks : (word left right : List ℕ) → Lacks word → Lacks left → Lacks right → Lacks (joined word left right)
+joined_lacks word left right h k l =
+    chain_lacks (codes "[\"") (word ∷ codes "\"," ∷ left ∷ codes "," ∷ right ∷ codes "]" ∷ []) refl
+    (h, (refl, (k, (refl, (l, (refl, tt))))))
 
 predicate_lacks : (predicate : Predicate) → Lacks (predicate_text predicate)
 predicate_lacks Always = refl
 predicate_lacks Never = refl
-predicate_lacks (Compare left comparison right) = comparison_lacks comparison left right
+predicate_lacks (Compare left comparison right) =
+    joined_lacks (comparison_word comparison) (array term_text left) (array term_text right) (word_lacks comparison)
+    (array_lacks term_text term_lacks left) (array_lacks term_text term_lacks right)
 predicate_lacks (Not inner) =
     chain_lacks (codes "[\"not\",") (predicate_text inner ∷ codes "]" ∷ []) refl (predicate_lacks inner, (refl, tt))
 predicate_lacks (And left right) =
-    chain_lacks (codes "[\"and\",") (predicate_text left ∷ codes "," ∷ predicate_text right ∷ codes "]" ∷ []) refl
-    (predicate_lacks left, (refl, (predicate_lacks right, (refl, tt))))
+    joined_lacks (codes "and") (predicate_text left) (predicate_text right) refl (predicate_lacks left)
+    (predicate_lacks right)
 predicate_lacks (Or left right) =
-    chain_lacks (codes "[\"or\",") (predicate_text left ∷ codes "," ∷ predicate_text right ∷ codes "]" ∷ []) refl
-    (predicate_lacks left, (refl, (predicate_lacks right, (refl, tt))))
+    joined_lacks (codes "or") (predicate_text left) (predicate_text right) refl (predicate_lacks left)
+    (predicate_lacks right)
 
 -- ---- processes, events and messages
 
@@ -150,11 +150,6 @@ process_lacks process =
 value_lacks : (value : ℤ) → Lacks (value_text value)
 value_lacks value =
     chain_lacks (codes "\"") (signed_decimal value ∷ codes "\"" ∷ []) refl (signed_lacks value, (refl, tt))
-
-values_lack : (values : List ℤ) → Lacks (values_text values)
-values_lack values =
-    chain_lacks (codes "[") (listed value_text values ∷ codes "]" ∷ []) refl
-    (listed_lacks value_text value_lacks values, (refl, tt))
 
 kind_lacks : (kind : Kind) → Lacks (kind_text kind)
 kind_lacks Local = refl
@@ -200,13 +195,16 @@ possibly_lacks (Possibly.Yes counts) =
 possibly_lacks Possibly.No = refl
 possibly_lacks (Possibly.Unknown level) = unknown_lacks level
 
+number_is : (names : List ProcessNames) (name : List ℕ) → Lacks (process_number names name)
+number_is names name = decimal_lacks (unwrap_or (process_named names name) 0)
+
 definitely_lacks : (names : List ProcessNames) (definitely : Definitely) → Lacks (definitely_text names definitely)
 definitely_lacks names (Definitely.Yes level) =
     chain_lacks (codes "[\"yes\",") (decimal level ∷ codes "]" ∷ []) refl (decimal_lacks level, (refl, tt))
 definitely_lacks names (Definitely.No path) =
     chain_lacks (codes "[\"no\",[")
-    (listed (step_text names) path ∷ codes "]]" ∷ []) refl
-    (listed_lacks (step_text names) (λ name. decimal_lacks (process_number names name)) path, (refl, tt))
+    (listed (process_number names) path ∷ codes "]]" ∷ []) refl
+    (listed_lacks (process_number names) (number_is names) path, (refl, tt))
 definitely_lacks names (Definitely.Unknown level) = unknown_lacks level
 
 answer_lacks : (names : List ProcessNames) (answer : Answer) → Lacks (answer_text names answer)
@@ -231,8 +229,8 @@ answer_lacks names answer =
 named_place_lacks : (names : List ProcessNames) (place : NamedPlace) → Lacks (named_place_text names place)
 named_place_lacks names place =
     chain_lacks (codes "[")
-    (decimal (process_number names place.name) ∷ codes "," ∷ decimal place.number ∷ codes "]" ∷ []) refl
-    (decimal_lacks (process_number names place.name), (refl, (decimal_lacks place.number, (refl, tt))))
+    (process_number names place.name ∷ codes "," ∷ decimal place.number ∷ codes "]" ∷ []) refl
+    (number_is names place.name, (refl, (decimal_lacks place.number, (refl, tt))))
 
 outcome_lacks : (names : List ProcessNames) (outcome : Outcome) → Lacks (outcome_text names outcome)
 outcome_lacks names (Answered answers) =
@@ -259,12 +257,13 @@ session_lacks : (document : Document) → Lacks (session_text document)
 unfolding session_text
 session_lacks document =
     chain_lacks (codes ",\n\"processes\":[")
-    (listed process_text document.names ∷ codes "],\n\"initial\":[" ∷ listed values_text document.initial ∷ codes "]"
+    (listed process_text document.names ∷ codes "],\n\"initial\":[" ∷ listed (array value_text) document.initial
+    ∷ codes "]"
     ∷ []) refl (
       listed_lacks process_text process_lacks document.names,
       (
         refl,
-        (listed_lacks values_text values_lack document.initial, (refl, tt)),
+        (listed_lacks (array value_text) (array_lacks value_text value_lacks) document.initial, (refl, tt)),
       ),
     )
 
@@ -306,17 +305,12 @@ report_lacks document outcome =
 
 -- ---- beside the session
 
-wish_kind_lacks : (kind : WishKind) → Lacks (kind_word kind)
-wish_kind_lacks extra.Never = refl
-wish_kind_lacks extra.Always = refl
-wish_kind_lacks extra.Sometimes = refl
-
-wish_lacks : (predicates : List NamedPredicate) (wish : Wish) → Lacks (wish_text predicates wish)
+wish_lacks : (predicates : List NamedPredicate) (wish : List ℕ × List ℕ) → Lacks (wish_text predicates wish)
 unfolding wish_text
-wish_lacks predicates wish =
-    let number = predicate_number predicates wish.name in
-    chain_lacks (codes "[\"") (kind_word wish.kind ∷ codes "\"," ∷ decimal number ∷ codes "]" ∷ []) refl
-    (wish_kind_lacks wish.kind, (refl, (decimal_lacks number, (refl, tt))))
+wish_lacks predicates (word, name) =
+    let number = predicate_number predicates name in
+    chain_lacks (codes "[") (quoted word ∷ codes "," ∷ decimal number ∷ codes "]" ∷ []) refl
+    (quoted_lacks word, (refl, (decimal_lacks number, (refl, tt))))
 
 link_lacks : (link : Option (List ℕ)) → Lacks (link_text link)
 link_lacks None = refl
@@ -338,9 +332,8 @@ extras_lack document extras =
 pub data_lacks : (document : Document) (extras : Extras) (sources : List Source) (events : Computation)
     (messages : List (Place × Place)) (outcome : Outcome)
     → Lacks (data_text document extras sources events messages outcome)
-unfolding data_text
 data_lacks document extras sources events messages outcome =
-    chain_lacks (limits_text document)
+    rw (data_is document extras sources events messages outcome) (chain_lacks (limits_text document)
     (extras_text document extras ∷ session_text document ∷ sources_text sources ∷ run_text events messages
     ∷ report_text document outcome ∷ codes "}\n" ∷ []) (limits_lack document) (
       extras_lack document extras,
@@ -351,7 +344,7 @@ data_lacks document extras sources events messages outcome =
           (run_lacks events messages, (report_lacks document outcome, (refl, tt))),
         ),
       ),
-    )
+    ))
 
 pub refusal_lacks : (report explanation : List ℕ) → Lacks (refusal_data report explanation)
 unfolding refusal_data

@@ -4,3 +4,4 @@ pub mod Parts
 pub mod Numerals
 pub mod Lacking
 pub mod Seen
+pub mod WrittenData

@@ -5,12 +5,8 @@ use Rattle.def_format.specs.Reports.{Answer, Possibly, Definitely, NamedPlace}
 use Rattle.out_page.specs.JsonTexts.{listed, quoted}
 
 -- the number of the process of this name, from 0
-abbrev pub process_number : List ProcessNames → List ℕ → ℕ
-process_number names name = unwrap_or (process_named names name) 0
-
--- a step of an observation, by the name of the process whose event happens
-abbrev pub step_text : List ProcessNames → List ℕ → List ℕ
-step_text names name = decimal (process_number names name)
+abbrev pub process_number : List ProcessNames → List ℕ → List ℕ
+process_number names name = decimal (unwrap_or (process_named names name) 0)
 
 -- the level by which it is unknown
 unfoldable pub unknown_text : ℕ → List ℕ
@@ -26,7 +22,7 @@ possibly_text (Possibly.Unknown level) = unknown_text level
 abbrev pub definitely_text : List ProcessNames → Definitely → List ℕ
 definitely_text names (Definitely.Yes level) = codes "[\"yes\"," ++ decimal level ++ codes "]"
 definitely_text names (Definitely.No path) =
-    codes "[\"no\",[" ++ listed (step_text names) path ++ codes "]]"
+    codes "[\"no\",[" ++ listed (process_number names) path ++ codes "]]"
 definitely_text names (Definitely.Unknown level) = unknown_text level
 
 -- the answers for one predicate
@@ -38,7 +34,7 @@ answer_text names answer =
 -- an event of a causal cycle, by the number of its process and its own
 abbrev pub named_place_text : List ProcessNames → NamedPlace → List ℕ
 named_place_text names place =
-    codes "[" ++ decimal (process_number names place.name) ++ codes "," ++ decimal place.number ++ codes "]"
+    codes "[" ++ process_number names place.name ++ codes "," ++ decimal place.number ++ codes "]"
 
 -- What a page shows of a report: the answers of a session that is judged, or the causal cycle of one that is refused
 -- for it.

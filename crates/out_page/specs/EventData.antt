@@ -14,10 +14,6 @@ process_text process =
 abbrev pub value_text : ℤ → List ℕ
 value_text value = codes "\"" ++ signed_decimal value ++ codes "\""
 
--- the values of a process's variables before any event
-abbrev pub values_text : List ℤ → List ℕ
-values_text values = codes "[" ++ listed value_text values ++ codes "]"
-
 -- What an event does: 0 if it is local, the message's id if it sends one, 1 if it receives one.
 abbrev pub kind_text : Kind → List ℕ
 kind_text Local = codes "0"

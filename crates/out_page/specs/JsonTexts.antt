@@ -28,6 +28,10 @@ abbrev pub listed : {A : Type 0} → (A → List ℕ) → List A → List ℕ
 listed text [] = []
 listed text (x ∷ others) = text x ++ flat_map (λ y. codes "," ++ text y) others
 
+-- an array of JSON
+abbrev pub array : {A : Type 0} → (A → List ℕ) → List A → List ℕ
+array text things = codes "[" ++ listed text things ++ codes "]"
+
 -- what stands between this many things and the next one
 abbrev pub comma_after : ℕ → List ℕ
 comma_after before = if before == 0 then [] else codes ","

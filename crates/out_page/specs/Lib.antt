@@ -6,3 +6,4 @@ pub mod SourceData
 pub mod ExtraData
 pub mod Views
 pub mod Pages
+pub mod Written

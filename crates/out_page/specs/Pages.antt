@@ -3,11 +3,11 @@
 use Rattle.std.specs.Prelude.{ℕ, Bool, true, false, List, ◌++◌, codes, decimal}
 use Rattle.def_model.specs.Events.{Computation, Place}
 use Rattle.def_format.specs.Documents.{Document}
-use Rattle.out_page.specs.JsonTexts.{listed, quoted}
-use Rattle.out_page.specs.PredicateData.{named_text}
-use Rattle.out_page.specs.EventData.{process_text, values_text, events_text, message_text}
+use Rattle.out_page.specs.JsonTexts.{array, quoted}
+use Rattle.out_page.specs.PredicateData.{predicate_text}
+use Rattle.out_page.specs.EventData.{process_text, value_text, events_text, message_text}
 use Rattle.out_page.specs.AnswerData.{Outcome, outcome_text}
-use Rattle.out_page.specs.ExtraData.{Extras, extras_text}
+use Rattle.out_page.specs.ExtraData.{Extras, link_text, wish_text}
 use Rattle.out_page.specs.SourceData.{Source, source_text}
 use Rattle.out_page.specs.declared.text_before.TheConstants.{BEFORE}
 use Rattle.out_page.specs.declared.text_diagram.TheConstants.{DIAGRAM}
@@ -28,42 +28,26 @@ abbrev pub truth_text : Bool → List ℕ
 truth_text true = codes "true"
 truth_text false = codes "false"
 
--- the width, and whether more was asked for
-unfoldable pub limits_text : Document → List ℕ
-limits_text document =
-    codes "{\"format\":1,\n\"width\":" ++ decimal document.width ++ codes ",\n\"beyond_width\":"
-    ++ truth_text document.beyond_width
-
--- the processes with their variables, and what these are before any event
-unfoldable pub session_text : Document → List ℕ
-session_text document =
-    codes ",\n\"processes\":[" ++ listed process_text document.names ++ codes "],\n\"initial\":["
-    ++ listed values_text document.initial ++ codes "]"
-
--- where the events of each process were recorded
-unfoldable pub sources_text : List Source → List ℕ
-sources_text sources = codes ",\n\"sources\":[" ++ listed source_text sources ++ codes "]"
-
--- the events of each process, and the messages
-unfoldable pub run_text : Computation → List (Place × Place) → List ℕ
-run_text events messages =
-    codes ",\n\"events\":[" ++ listed events_text events ++ codes "],\n\"messages\":[" ++ listed message_text messages
-    ++ codes "]"
-
--- the predicates, and the answers for them, in their order; or the causal cycle
-unfoldable pub report_text : Document → Outcome → List ℕ
-report_text document outcome =
-    codes ",\n\"predicates\":[" ++ listed named_text document.predicates ++ codes "],\n"
-    ++ outcome_text document.names outcome
+-- a field of the data, after others
+abbrev pub field : (name text : List ℕ) → List ℕ
+field name text = codes ",\n\"" ++ name ++ codes "\":" ++ text
 
 -- What stands in the page for a document, what it has beside the session, the files of its processes, their events, the
--- messages, each as its send and its receipt, and what is shown of the report: one object of JSON.
+-- messages, each as its send and its receipt, and what is shown of the report: one object of JSON. Of a document these
+-- are the width and whether more was asked for, its processes, the values of their variables before any event, and its
+-- predicates.
 unfoldable pub data_text : Document → Extras → List Source → Computation → List (Place × Place) → Outcome → List ℕ
 data_text document extras sources events messages outcome =
-    limits_text document ++ extras_text document extras ++ session_text document ++ sources_text sources
-    ++ run_text events messages
-    ++ report_text document outcome
-    ++ codes "}\n"
+    codes "{\"format\":1" ++ field (codes "width") (decimal document.width)
+    ++ field (codes "beyond_width") (truth_text document.beyond_width)
+    ++ field (codes "wishes") (array (wish_text document.predicates) extras.wishes)
+    ++ field (codes "notes") (array quoted extras.notes) ++ field (codes "link") (link_text extras.link)
+    ++ field (codes "processes") (array process_text document.names)
+    ++ field (codes "initial") (array (array value_text) document.initial)
+    ++ field (codes "sources") (array source_text sources) ++ field (codes "events") (array events_text events)
+    ++ field (codes "messages") (array message_text messages)
+    ++ field (codes "predicates") (array (λ named. predicate_text named.predicate) document.predicates)
+    ++ codes ",\n" ++ outcome_text document.names outcome ++ codes "}\n"
 
 -- What stands in the page of a refusal: the text of the report, and an explanation.
 unfoldable pub refusal_data : (report explanation : List ℕ) → List ℕ
@@ -74,51 +58,11 @@ refusal_data report explanation =
 unfoldable pub text_before : List ℕ
 text_before = BEFORE.now
 
--- the page's scripts, and what stands around them
-unfoldable pub text_run : List ℕ
-text_run = RUN.now
-
-unfoldable pub text_verdict : List ℕ
-text_verdict = VERDICT.now
-
-unfoldable pub text_notes : List ℕ
-text_notes = NOTES.now
-
-unfoldable pub text_predicate : List ℕ
-text_predicate = PREDICATE.now
-
-unfoldable pub text_matter : List ℕ
-text_matter = MATTER.now
-
-unfoldable pub text_lanes : List ℕ
-text_lanes = LANES.now
-
-unfoldable pub text_labels : List ℕ
-text_labels = LABELS.now
-
-unfoldable pub text_diagram : List ℕ
-text_diagram = DIAGRAM.now
-
-unfoldable pub text_picture : List ℕ
-text_picture = PICTURE.now
-
-unfoldable pub text_panel : List ℕ
-text_panel = PANEL.now
-
-unfoldable pub text_refusal : List ℕ
-text_refusal = REFUSAL.now
-
-unfoldable pub text_pointer : List ℕ
-text_pointer = POINTER.now
-
-unfoldable pub text_main : List ℕ
-text_main = MAIN.now
-
--- the page's text after its data
+-- the page's text after its data: its scripts, and what stands around them
 unfoldable pub text_after : List ℕ
 text_after =
-    text_run ++ text_verdict ++ text_notes ++ text_predicate ++ text_matter ++ text_lanes ++ text_labels ++ text_diagram
-    ++ text_picture ++ text_panel ++ text_refusal ++ text_pointer ++ text_main
+    RUN.now ++ VERDICT.now ++ NOTES.now ++ PREDICATE.now ++ MATTER.now ++ LANES.now ++ LABELS.now ++ DIAGRAM.now
+    ++ PICTURE.now ++ PANEL.now ++ REFUSAL.now ++ POINTER.now ++ MAIN.now
 
 unfoldable pub page_text : Document → Extras → List Source → Computation → List (Place × Place) → Outcome → List ℕ
 page_text document extras sources events messages outcome =

@@ -1,8 +1,7 @@
 -- What stands in a page for a predicate: its tree, as lists of JSON that begin with a word.
 use Rattle.std.specs.Prelude.{ℕ, List, ◌++◌, codes, decimal}
 use Rattle.def_model.specs.Predicates.{Predicate, Always, Never, Compare, Not, And, Or, Comparison, Equals, Differs, IsLess, IsAtMost, IsGreater, IsAtLeast, Sign, Plus, Minus, Term, Number, Variable, Times}
-use Rattle.def_format.specs.Documents.{NamedPredicate}
-use Rattle.out_page.specs.JsonTexts.{listed}
+use Rattle.out_page.specs.JsonTexts.{array}
 
 abbrev pub sign_text : Sign → List ℕ
 sign_text Plus = codes "\"+\""
@@ -19,9 +18,6 @@ term_fields (Times factor process var) =
 abbrev pub term_text : Sign × Term → List ℕ
 term_text (sign, term) = codes "[" ++ sign_text sign ++ term_fields term ++ codes "]"
 
-abbrev pub sum_text : List (Sign × Term) → List ℕ
-sum_text terms = codes "[" ++ listed term_text terms ++ codes "]"
-
 abbrev pub comparison_word : Comparison → List ℕ
 comparison_word Equals = codes "equals"
 comparison_word Differs = codes "differs"
@@ -30,20 +26,15 @@ comparison_word IsAtMost = codes "at most"
 comparison_word IsGreater = codes "greater"
 comparison_word IsAtLeast = codes "at least"
 
-unfoldable pub comparison_text : Comparison → (left right : List (Sign × Term)) → List ℕ
-comparison_text comparison left right =
-    codes "[\"" ++ comparison_word comparison ++ codes "\"," ++ sum_text left ++ codes "," ++ sum_text right
-    ++ codes "]"
+-- a word, and what it joins
+abbrev pub joined : (word left right : List ℕ) → List ℕ
+joined word left right = codes "[\"" ++ word ++ codes "\"," ++ left ++ codes "," ++ right ++ codes "]"
 
 abbrev pub predicate_text : Predicate → List ℕ
 predicate_text Always = codes "[\"true\"]"
 predicate_text Never = codes "[\"false\"]"
-predicate_text (Compare left comparison right) = comparison_text comparison left right
+predicate_text (Compare left comparison right) =
+    joined (comparison_word comparison) (array term_text left) (array term_text right)
 predicate_text (Not inner) = codes "[\"not\"," ++ predicate_text inner ++ codes "]"
-predicate_text (And left right) =
-    codes "[\"and\"," ++ predicate_text left ++ codes "," ++ predicate_text right ++ codes "]"
-predicate_text (Or left right) =
-    codes "[\"or\"," ++ predicate_text left ++ codes "," ++ predicate_text right ++ codes "]"
-
-abbrev pub named_text : NamedPredicate → List ℕ
-named_text named = predicate_text named.predicate
+predicate_text (And left right) = joined (codes "and") (predicate_text left) (predicate_text right)
+predicate_text (Or left right) = joined (codes "or") (predicate_text left) (predicate_text right)

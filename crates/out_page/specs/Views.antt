@@ -1,5 +1,5 @@
 -- What a page's parts stand for.
-use Rattle.std.specs.Prelude.{ℕ, List, map, option_map, string_bytes, Option}
+use Rattle.std.specs.Prelude.{ℕ, List, codes, map, option_map, string_bytes, Option}
 use Rattle.std.specs.Borrow.{Bor}
 use Rattle.out_page.specs.AnswerData as shown
 use Rattle.out_page.specs.ExtraData as extra
@@ -9,7 +9,7 @@ use Rattle.out_page.specs.declared.content.Outcome.TheVariants.{Answers, Cycle}
 use Rattle.out_page.specs.declared.extras.Extras.{Extras}
 use Rattle.out_page.specs.declared.extras.Wish.{Wish}
 use Rattle.out_page.specs.declared.extras.WishKind.{WishKind}
-use Rattle.out_page.specs.declared.extras.WishKind.TheVariants as kinds
+use Rattle.out_page.specs.declared.extras.WishKind.TheVariants.{Never, Always, Sometimes}
 use Rattle.out_page.specs.declared.source.Source.{Source}
 use Rattle.pd_report.specs.Views.{answer_view, named_places_view}
 
@@ -23,13 +23,13 @@ source_view source = record { name = source.name.now; lines = source.lines.items
 abbrev pub sources_view : List Source → List recorded.Source
 sources_view sources = map source_view sources
 
-abbrev pub wish_kind_view : WishKind → extra.WishKind
-wish_kind_view kinds.Never = extra.Never
-wish_kind_view kinds.Always = extra.Always
-wish_kind_view kinds.Sometimes = extra.Sometimes
+abbrev pub kind_word : WishKind → List ℕ
+kind_word Never = codes "never"
+kind_word Always = codes "always"
+kind_word Sometimes = codes "sometimes"
 
-abbrev pub wish_view : Wish → extra.Wish
-wish_view wish = record { kind = wish_kind_view wish.kind; name = wish.name.now }
+abbrev pub wish_view : Wish → List ℕ × List ℕ
+wish_view wish = (kind_word wish.kind, wish.name.now)
 
 abbrev pub link_view : Option (Bor (List ℕ)) → Option (List ℕ)
 link_view link = option_map (λ (pattern : Bor (List ℕ)). pattern.now) link

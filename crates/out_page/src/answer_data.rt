@@ -1,10 +1,11 @@
 //! The answers of a report, or the causal cycle that it names.
-ghost use Rattle.out_page.specs.AnswerData.{Answered, Cyclic, answer_text, definitely_text, named_place_text, outcome_text, possibly_text, process_number, step_text, unknown_text};
+ghost use Rattle.def_format.specs.Names.{process_named};
+ghost use Rattle.out_page.specs.AnswerData.{Answered, Cyclic, answer_text, definitely_text, named_place_text, outcome_text, possibly_text, process_number, unknown_text};
 ghost use Rattle.out_page.specs.JsonTexts.{listed};
 ghost use Rattle.out_page.specs.Views.{outcome_view};
 ghost use Rattle.pd_report.specs.Steps.{AreBelow, name_at, names_at, names_view};
 ghost use Rattle.pd_report.specs.Views.{answer_view, definitely_view, named_place_view, named_places_view, possibly_view};
-ghost use Rattle.std.specs.Prelude.{◌≡◌, ◌<◌, ◌++◌, decimal, length, map, OnOk};
+ghost use Rattle.std.specs.Prelude.{◌≡◌, ◌<◌, ◌++◌, decimal, length, map, unwrap_or, OnOk};
 
 use super::Outcome;
 use super::json_texts::{push_index, push_quoted};
@@ -54,7 +55,7 @@ fn push_possibly(out: &mut Vec<u8>, possibly: &Possibly) -> Result<(), AllocErro
 
 /// The number of the process of this name, from 0.
 fn process_number(names: &Names, name: &str) -> usize
-    ensures { result ≡ process_number names.now name.now }
+    ensures { result ≡ unwrap_or (process_named names.now name.now) 0 }
 {
     names.find(name).unwrap_or(0)
 }
@@ -68,7 +69,7 @@ fn push_step(
 ) -> Result<(), AllocError>
     requires { step < length texts.now }
     ensures { OnOk result (out.new.items ≡ out.old.items
-        ++ step_text names.now (name_at (names_view texts.now) step)) }
+        ++ process_number names.now (name_at (names_view texts.now) step)) }
 {
     push_index(out, process_number(names, texts[step].as_str()))?;
     Ok(())
@@ -83,7 +84,7 @@ fn push_steps(
 ) -> Result<(), AllocError>
     requires { AreBelow (length texts.now) steps.now }
     ensures { OnOk result (out.new.items ≡ out.old.items
-        ++ listed (step_text names.now) (names_at (names_view texts.now) steps.now)) }
+        ++ listed (process_number names.now) (names_at (names_view texts.now) steps.now)) }
 {
     let Some((first, others)) = steps.split_first() else {
         return Ok(());
@@ -99,7 +100,7 @@ fn push_steps(
 /// Appends the numbers of the processes of a path, with a comma between each two.
 fn push_path(out: &mut Vec<u8>, names: &Names, path: &Path) -> Result<(), AllocError>
     ensures { OnOk result (out.new.items ≡ out.old.items
-        ++ listed (step_text names.now) path.now) }
+        ++ listed (process_number names.now) path.now) }
 {
     let (texts, steps) = path.parts();
     push_steps(out, names, texts, steps)?;

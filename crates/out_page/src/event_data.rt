@@ -2,8 +2,8 @@
 ghost use Rattle.def_format.specs.Names.{ProcessNames};
 ghost use Rattle.pd_match.specs.Views.{pairs_view, place_view};
 ghost use Rattle.def_model.specs.Events.{Event as Happened};
-ghost use Rattle.out_page.specs.EventData.{event_text, events_text, kind_text, message_text, place_text, process_text, setting_text, value_text, values_text};
-ghost use Rattle.out_page.specs.JsonTexts.{comma_after, listed};
+ghost use Rattle.out_page.specs.EventData.{event_text, events_text, kind_text, message_text, place_text, process_text, setting_text, value_text};
+ghost use Rattle.out_page.specs.JsonTexts.{array, comma_after, listed};
 ghost use Rattle.read_traces.specs.Columns.{seen_kind_view};
 ghost use Rattle.read_traces.specs.Views.{computation_view};
 ghost use Rattle.std.specs.Prelude.{◌≡◌, ◌<◌, ◌++◌, codes, flat_map, length, map, slice_get, OnOk, Some};
@@ -98,7 +98,7 @@ fn push_listed_values(out: &mut Vec<u8>, values: &[i64]) -> Result<(), AllocErro
 
 /// Appends the values of a process's variables.
 fn push_values(out: &mut Vec<u8>, values: &[i64]) -> Result<(), AllocError>
-    ensures { OnOk result (out.new.items ≡ out.old.items ++ values_text values.now) }
+    ensures { OnOk result (out.new.items ≡ out.old.items ++ array value_text values.now) }
 {
     push_bytes(out, b"[")?;
     push_listed_values(out, values)?;
@@ -107,7 +107,7 @@ fn push_values(out: &mut Vec<u8>, values: &[i64]) -> Result<(), AllocError>
 
 /// Appends the values of a process's variables, which stand in a row.
 fn push_row(out: &mut Vec<u8>, row: &Vec<i64>) -> Result<(), AllocError>
-    ensures { OnOk result (out.new.items ≡ out.old.items ++ values_text row.now.items) }
+    ensures { OnOk result (out.new.items ≡ out.old.items ++ array value_text row.now.items) }
 {
     push_values(out, row)
 }
@@ -115,7 +115,7 @@ fn push_row(out: &mut Vec<u8>, row: &Vec<i64>) -> Result<(), AllocError>
 /// Appends the values of each process's variables, with a comma between each two processes.
 pub(crate) fn push_rows(out: &mut Vec<u8>, rows: &[Vec<i64>]) -> Result<(), AllocError>
     ensures { OnOk result (out.new.items ≡ out.old.items
-        ++ listed values_text (map (λ row. row.items) rows.now)) }
+        ++ listed (array value_text) (map (λ row. row.items) rows.now)) }
 {
     let Some((first, others)) = rows.split_first() else {
         return Ok(());

@@ -1,7 +1,8 @@
 //! What is wished of predicates, notes, and the pattern of links.
-ghost use Rattle.out_page.specs.ExtraData.{extras_text, kind_word, link_text, predicate_named, predicate_number, wish_text};
-ghost use Rattle.out_page.specs.JsonTexts.{listed};
-ghost use Rattle.out_page.specs.Views.{extras_view, link_view, wish_kind_view, wish_view};
+ghost use Rattle.out_page.specs.ExtraData.{link_text, predicate_number, wish_text};
+ghost use Rattle.out_page.specs.Written.{extras_text};
+ghost use Rattle.out_page.specs.JsonTexts.{listed, quoted};
+ghost use Rattle.out_page.specs.Views.{extras_view, kind_word, link_view, wish_view};
 ghost use Rattle.pd_spec.specs.Named.{named_view};
 ghost use Rattle.pd_spec.specs.Views.{document_view};
 ghost use Rattle.std.specs.Prelude.{◌≡◌, ◌++◌, map, position, string_bytes, OnOk};
@@ -13,14 +14,14 @@ use pd_report::push_bytes;
 use pd_spec::{NamedPred, Spec};
 use std::alloc::AllocError;
 
-/// The word for a kind of wish.
-fn kind_word(kind: WishKind) -> &'static [u8]
-    ensures { result.now ≡ kind_word (wish_kind_view kind) }
+/// The word for a kind of wish, as a text of JSON.
+fn kind_text(kind: WishKind) -> &'static [u8]
+    ensures { result.now ≡ quoted (kind_word kind) }
 {
     match kind {
-        WishKind::Never => b"never",
-        WishKind::Always => b"always",
-        WishKind::Sometimes => b"sometimes",
+        WishKind::Never => b"\"never\"",
+        WishKind::Always => b"\"always\"",
+        WishKind::Sometimes => b"\"sometimes\"",
     }
 }
 
@@ -33,18 +34,11 @@ fn place_of(predicates: &[NamedPred], name: &str) -> Option<usize>
         .position(|predicate| predicate.name.as_str() == name)
 }
 
-/// The number of the predicate of this name, from 0, if there is one.
-fn predicate_named(predicates: &[NamedPred], name: &str) -> Option<usize>
-    ensures { result ≡ predicate_named (map named_view predicates.now) name.now }
-{
-    place_of(predicates, name)
-}
-
-/// The number of the predicate of this name, from 0.
+/// The number of the first predicate of this name, from 0.
 fn predicate_number(predicates: &[NamedPred], name: &str) -> usize
     ensures { result ≡ predicate_number (map named_view predicates.now) name.now }
 {
-    predicate_named(predicates, name).unwrap_or(0)
+    place_of(predicates, name).unwrap_or(0)
 }
 
 /// Appends a wish for one of these predicates.
@@ -52,9 +46,9 @@ fn push_wish(out: &mut Vec<u8>, predicates: &[NamedPred], wish: Wish<'_>) -> Res
     ensures { OnOk result (out.new.items ≡ out.old.items
         ++ wish_text (map named_view predicates.now) (wish_view wish.entry)) }
 {
-    push_bytes(out, b"[\"")?;
-    push_bytes(out, kind_word(wish.kind))?;
-    push_bytes(out, b"\",")?;
+    push_bytes(out, b"[")?;
+    push_bytes(out, kind_text(wish.kind))?;
+    push_bytes(out, b",")?;
     push_index(out, predicate_number(predicates, wish.name))?;
     push_bytes(out, b"]")?;
     Ok(())

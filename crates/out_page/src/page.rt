@@ -1,6 +1,7 @@
 //! A page's text, also written.
 ghost use Rattle.pd_match.specs.Views.{pairs_view};
-ghost use Rattle.out_page.specs.Pages.{page_text, text_after, text_before, text_diagram, text_labels, text_lanes, text_main, text_matter, text_notes, text_panel, text_picture, text_pointer, text_predicate, text_refusal, text_run, text_verdict};
+ghost use Rattle.out_page.specs.Pages.{page_text, text_after, text_before};
+ghost use Rattle.out_page.specs.Written.{scripts, text_diagram, text_labels, text_lanes, text_main, text_matter, text_notes, text_panel, text_picture, text_pointer, text_predicate, text_refusal, text_run, text_verdict};
 ghost use Rattle.out_page.specs.Views.{extras_view, outcome_view, sources_view};
 ghost use Rattle.pd_spec.specs.Views.{document_view};
 ghost use Rattle.read_traces.specs.Views.{computation_view};
@@ -36,7 +37,7 @@ pub(crate) fn text_before() -> &'static [u8]
 }
 
 /// The text with the script that knows what follows from the data.
-#[tactic(auto, unfolding(crate::specs::Pages::text_run))]
+#[tactic(auto, unfolding(crate::specs::Written::text_run))]
 fn text_run() -> &'static [u8]
     ensures { result.now ≡ text_run }
 {
@@ -44,7 +45,7 @@ fn text_run() -> &'static [u8]
 }
 
 /// The text with the script that says what came of the run, and of its wishes.
-#[tactic(auto, unfolding(crate::specs::Pages::text_verdict))]
+#[tactic(auto, unfolding(crate::specs::Written::text_verdict))]
 fn text_verdict() -> &'static [u8]
     ensures { result.now ≡ text_verdict }
 {
@@ -52,7 +53,7 @@ fn text_verdict() -> &'static [u8]
 }
 
 /// The text with the script that reads the notes of recorders.
-#[tactic(auto, unfolding(crate::specs::Pages::text_notes))]
+#[tactic(auto, unfolding(crate::specs::Written::text_notes))]
 fn text_notes() -> &'static [u8]
     ensures { result.now ≡ text_notes }
 {
@@ -60,7 +61,7 @@ fn text_notes() -> &'static [u8]
 }
 
 /// The text with the script that reads a predicate that is typed.
-#[tactic(auto, unfolding(crate::specs::Pages::text_predicate))]
+#[tactic(auto, unfolding(crate::specs::Written::text_predicate))]
 fn text_predicate() -> &'static [u8]
     ensures { result.now ≡ text_predicate }
 {
@@ -68,7 +69,7 @@ fn text_predicate() -> &'static [u8]
 }
 
 /// The text with the script that finds what matters to a predicate.
-#[tactic(auto, unfolding(crate::specs::Pages::text_matter))]
+#[tactic(auto, unfolding(crate::specs::Written::text_matter))]
 fn text_matter() -> &'static [u8]
     ensures { result.now ≡ text_matter }
 {
@@ -76,7 +77,7 @@ fn text_matter() -> &'static [u8]
 }
 
 /// The text with the script that orders and folds the lanes.
-#[tactic(auto, unfolding(crate::specs::Pages::text_lanes))]
+#[tactic(auto, unfolding(crate::specs::Written::text_lanes))]
 fn text_lanes() -> &'static [u8]
     ensures { result.now ≡ text_lanes }
 {
@@ -84,7 +85,7 @@ fn text_lanes() -> &'static [u8]
 }
 
 /// The text with the script that writes notes and values on the drawing.
-#[tactic(auto, unfolding(crate::specs::Pages::text_labels))]
+#[tactic(auto, unfolding(crate::specs::Written::text_labels))]
 fn text_labels() -> &'static [u8]
     ensures { result.now ≡ text_labels }
 {
@@ -92,7 +93,7 @@ fn text_labels() -> &'static [u8]
 }
 
 /// The text with the script that draws the run.
-#[tactic(auto, unfolding(crate::specs::Pages::text_diagram))]
+#[tactic(auto, unfolding(crate::specs::Written::text_diagram))]
 fn text_diagram() -> &'static [u8]
     ensures { result.now ≡ text_diagram }
 {
@@ -100,7 +101,7 @@ fn text_diagram() -> &'static [u8]
 }
 
 /// The text with the script that saves what is drawn.
-#[tactic(auto, unfolding(crate::specs::Pages::text_picture))]
+#[tactic(auto, unfolding(crate::specs::Written::text_picture))]
 fn text_picture() -> &'static [u8]
     ensures { result.now ≡ text_picture }
 {
@@ -108,7 +109,7 @@ fn text_picture() -> &'static [u8]
 }
 
 /// The text with the script that shows what stands beside the run.
-#[tactic(auto, unfolding(crate::specs::Pages::text_panel))]
+#[tactic(auto, unfolding(crate::specs::Written::text_panel))]
 fn text_panel() -> &'static [u8]
     ensures { result.now ≡ text_panel }
 {
@@ -116,7 +117,7 @@ fn text_panel() -> &'static [u8]
 }
 
 /// The text with the script that shows a session that is refused.
-#[tactic(auto, unfolding(crate::specs::Pages::text_refusal))]
+#[tactic(auto, unfolding(crate::specs::Written::text_refusal))]
 fn text_refusal() -> &'static [u8]
     ensures { result.now ≡ text_refusal }
 {
@@ -124,7 +125,7 @@ fn text_refusal() -> &'static [u8]
 }
 
 /// The text with the script that follows the pointer.
-#[tactic(auto, unfolding(crate::specs::Pages::text_pointer))]
+#[tactic(auto, unfolding(crate::specs::Written::text_pointer))]
 fn text_pointer() -> &'static [u8]
     ensures { result.now ≡ text_pointer }
 {
@@ -132,17 +133,17 @@ fn text_pointer() -> &'static [u8]
 }
 
 /// The text with the script that starts the page, and the page's end.
-#[tactic(auto, unfolding(crate::specs::Pages::text_main))]
+#[tactic(auto, unfolding(crate::specs::Written::text_main))]
 fn text_main() -> &'static [u8]
     ensures { result.now ≡ text_main }
 {
     MAIN
 }
 
-/// Appends the page's text after its data.
-#[tactic(auto, unfolding(crate::specs::Pages::text_after))]
-pub(crate) fn push_after(out: &mut Vec<u8>) -> Result<(), AllocError>
-    ensures { OnOk result (out.new.items ≡ out.old.items ++ text_after) }
+/// Appends the scripts.
+#[tactic(auto, unfolding(crate::specs::Written::scripts))]
+fn push_scripts(out: &mut Vec<u8>) -> Result<(), AllocError>
+    ensures { OnOk result (out.new.items ≡ out.old.items ++ scripts) }
 {
     push_bytes(out, text_run())?;
     push_bytes(out, text_verdict())?;
@@ -157,6 +158,14 @@ pub(crate) fn push_after(out: &mut Vec<u8>) -> Result<(), AllocError>
     push_bytes(out, text_refusal())?;
     push_bytes(out, text_pointer())?;
     push_bytes(out, text_main())
+}
+
+/// Appends the page's text after its data.
+pub(crate) fn push_after(out: &mut Vec<u8>) -> Result<(), AllocError>
+    ensures { OnOk result (out.new.items ≡ out.old.items ++ text_after) }
+{
+    push_scripts(out)?;
+    Ok(())
 }
 
 /// A page's text: the text before the data, the data, and the text after it.

@@ -1,6 +1,6 @@
 //! A predicate's tree.
-ghost use Rattle.out_page.specs.JsonTexts.{listed};
-ghost use Rattle.out_page.specs.PredicateData.{comparison_text, comparison_word, predicate_text, sign_text, sum_text, term_fields, term_text};
+ghost use Rattle.out_page.specs.JsonTexts.{array, listed};
+ghost use Rattle.out_page.specs.PredicateData.{comparison_word, joined, predicate_text, sign_text, term_fields, term_text};
 ghost use Rattle.pd_pred.specs.Trees.{comparison_view, sign_view, signed_term_view, sum_view, term_view, terms_view, tree_view};
 ghost use Rattle.std.specs.Prelude.{◌≡◌, ◌++◌, OnOk};
 
@@ -92,7 +92,7 @@ fn push_terms(out: &mut Vec<u8>, terms: &[SignedTerm]) -> Result<(), AllocError>
 
 /// Appends a sum.
 fn push_sum(out: &mut Vec<u8>, sum: &Sum) -> Result<(), AllocError>
-    ensures { OnOk result (out.new.items ≡ out.old.items ++ sum_text (sum_view sum.now)) }
+    ensures { OnOk result (out.new.items ≡ out.old.items ++ array term_text (sum_view sum.now)) }
 {
     push_bytes(out, b"[")?;
     push_terms(out, &sum.terms)?;
@@ -100,7 +100,6 @@ fn push_sum(out: &mut Vec<u8>, sum: &Sum) -> Result<(), AllocError>
 }
 
 /// Appends a comparison of two sums.
-#[tactic(auto, unfolding(crate::specs::PredicateData::comparison_text))]
 fn push_comparison(
     out: &mut Vec<u8>,
     comparison: Comparison,
@@ -108,7 +107,8 @@ fn push_comparison(
     right: &Sum,
 ) -> Result<(), AllocError>
     ensures { OnOk result (out.new.items ≡ out.old.items
-        ++ comparison_text (comparison_view comparison) (sum_view left.now) (sum_view right.now)) }
+        ++ joined (comparison_word (comparison_view comparison)) (array term_text (sum_view left.now))
+        (array term_text (sum_view right.now))) }
 {
     push_bytes(out, b"[\"")?;
     push_bytes(out, comparison_word(comparison))?;

@@ -31,7 +31,8 @@ escaped_from : (earlier last : ℕ) (text : List ℕ) → IsEscaped (escaped_aft
 escaped_from earlier last [] = none
 escaped_from earlier last (byte ∷ rest) =
     chosen_is (byte == 38) (byte == 60) (byte == 62) (byte == 34) (byte == 39) (is_control byte)
-    (earlier == 239 && last == 191 && nat_le 190 byte && nat_le byte 191) byte (escaped_after last byte rest) refl (escaped_from last byte rest)
+    (earlier == 239 && last == 191 && nat_le 190 byte && nat_le byte 191) byte
+    (escaped_after last byte rest) refl (escaped_from last byte rest)
 
 -- whatever the text
 pub is_escaped : (text : List ℕ) → IsEscaped (escape text)

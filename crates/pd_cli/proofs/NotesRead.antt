@@ -11,7 +11,6 @@ use Rattle.app_host.specs.FileSources.{Knows}
 use Rattle.app_host.proofs.FilesRead.{zip_on}
 use Rattle.judge_runs.specs.Views.{wish_view}
 use Rattle.judge_runs.specs.declared.wish.Wish.{Wish}
-use Rattle.out_page.specs.ExtraData as shown
 use Rattle.pd_cli.specs.Explorations.{IsNoteOf, IsNotesFile, notes_byte_limit, shown_wish}
 
 -- one more file of notes
@@ -63,4 +62,4 @@ pub shown_each : (wishes : List Wish) → map (λ (wish : Wish). shown_wish (wis
     ≡ map shown_wish (map wish_view wishes)
 shown_each [] = refl
 shown_each (wish ∷ wishes) =
-    ap (λ (rest : List shown.Wish). shown_wish (wish_view wish) ∷ rest) (shown_each wishes)
+    ap (λ (rest : List (List ℕ × List ℕ)). shown_wish (wish_view wish) ∷ rest) (shown_each wishes)

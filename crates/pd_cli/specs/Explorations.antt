@@ -1,5 +1,5 @@
 -- What a run that explores leaves on its output.
-use Rattle.std.specs.Prelude.{◌≡◌, ◌≤◌, ◌⊎◌, ℕ, true, false, All, List, [], ◌∷◌, ◌++◌, length, map, unwrap_or, Option, Some, IfSome}
+use Rattle.std.specs.Prelude.{◌≡◌, ◌≤◌, ◌⊎◌, ℕ, true, false, All, List, [], ◌∷◌, ◌++◌, codes, length, map, unwrap_or, Option, Some, IfSome}
 use Rattle.std.specs.List.{AllZip}
 use Rattle.std.specs.Str.{IsUtf8}
 use Rattle.def_format.specs.Documents.{Inquiry, Options}
@@ -11,18 +11,17 @@ use Rattle.def_judgement.specs.Writes.{Source}
 use Rattle.judge_explore.specs.Explored.{IsOwed}
 use Rattle.judge_explore.specs.Sources.{AreFilesOf, StreamFile}
 use Rattle.judge_runs.specs.Wishes as wished
-use Rattle.out_page.specs.ExtraData as shown
 use Rattle.out_page.specs.ExtraData.{Extras}
 
 -- ---- what the page has beside its session
 
-abbrev pub shown_kind : wished.WishKind → shown.WishKind
-shown_kind wished.Never = shown.Never
-shown_kind wished.Always = shown.Always
-shown_kind wished.Sometimes = shown.Sometimes
+abbrev pub kind_word : wished.WishKind → List ℕ
+kind_word wished.Never = codes "never"
+kind_word wished.Always = codes "always"
+kind_word wished.Sometimes = codes "sometimes"
 
-abbrev pub shown_wish : wished.Wish → shown.Wish
-shown_wish wish = record { kind = shown_kind wish.kind; name = unwrap_or wish.name [] }
+abbrev pub shown_wish : wished.Wish → List ℕ × List ℕ
+shown_wish wish = (kind_word wish.kind, unwrap_or wish.name [])
 
 -- the note is all that the file of this name holds, if that is known
 abbrev pub IsNoteOf : (bytes_of : List ℕ → Option (List ℕ)) → (name note : List ℕ) → Type 0

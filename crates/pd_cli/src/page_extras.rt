@@ -3,7 +3,7 @@ ghost use Rattle.app_arguments.specs.Views.{page_view};
 ghost use Rattle.app_host.specs.FileSources.{bytes_in};
 ghost use Rattle.judge_runs.specs.Views.{wish_kind_view, wish_view};
 ghost use Rattle.out_page.specs.Views as shown;
-ghost use Rattle.pd_cli.specs.Explorations.{AreExtras, IsNoteOf, IsNotesFile, notes_byte_limit, shown_kind, shown_wish};
+ghost use Rattle.pd_cli.specs.Explorations.{AreExtras, IsNoteOf, IsNotesFile, kind_word, notes_byte_limit, shown_wish};
 ghost use Rattle.std.specs.List.{AllZip};
 ghost use Rattle.std.specs.Prelude.{◌≡◌, ◌≤◌, ◌⊎◌, All, Err, IfErr, IfOk, IsOk, map, string_bytes, vec_len};
 ghost use Rattle.std.specs.Str.{IsUtf8};
@@ -21,7 +21,7 @@ const NOTES_BYTE_LIMIT: usize = 67_108_864;
 
 /// A kind of wish, as a page shows it.
 fn shown_kind(kind: WishedKind) -> WishKind
-    ensures { shown.wish_kind_view result ≡ shown_kind (wish_kind_view kind) }
+    ensures { shown.kind_word result ≡ kind_word (wish_kind_view kind) }
 {
     match kind {
         WishedKind::Never => WishKind::Never,

@@ -4,7 +4,8 @@ use Rattle.std.specs.Global.{Global}
 use Rattle.std.specs.Prelude.{codes, string_bytes}
 use Rattle.std.specs.declared.string.String.{String}
 use Rattle.def_format.specs.Documents.{NamedPredicate}
-use Rattle.out_page.specs.ExtraData.{extras_text, link_text, wish_text}
+use Rattle.out_page.specs.ExtraData.{link_text, wish_text}
+use Rattle.out_page.specs.Written.{extras_text}
 use Rattle.out_page.specs.JsonTexts.{listed, quoted}
 use Rattle.out_page.specs.Views.{extras_view, wish_view}
 use Rattle.out_page.specs.declared.extras.Wish.{Wish}

@@ -1,16 +1,16 @@
 -- The data, part by part.
+use Rattle.std.proofs.Common.{◌∙◌, ◌++◌, List, ℕ, ap, sym}
 use Rattle.std.specs.Prelude.{codes}
 use Rattle.pd_match.specs.Views.{pairs_view}
-use Rattle.out_page.specs.ExtraData.{extras_text}
-use Rattle.out_page.specs.Pages.{data_text, limits_text, report_text, run_text, session_text, sources_text}
+use Rattle.out_page.specs.Written.{extras_text, limits_text, report_text, run_text, session_text, sources_text}
 use Rattle.out_page.specs.Views.{extras_view, outcome_view, sources_view}
 use Rattle.out_page.proofs.Parts.{seven_parts}
+use Rattle.out_page.proofs.WrittenData.{data_is}
 use Rattle.pd_spec.specs.Views.{document_view}
 use Rattle.read_traces.specs.Views.{computation_view}
 use Rattle.out_page.proofs.page_data.push_data.Goals as goal
 
 pub returns : goal.returns
-unfolding data_text
 returns c =
     let content = c.args.content.now in
     let document = document_view content.spec.now in
@@ -24,3 +24,6 @@ returns c =
     c.in_ok-push_extras.ensures
     c.in_ok-push_session.ensures c.in_ok-push_recorded.ensures c.in_ok-push_run.ensures c.in_ok-push_report.ensures
     c.in_ok-push_bytes.ensures.ok
+    ∙ ap (λ (text : List ℕ). c.args.out.now.items ++ text) (sym (data_is document (extras_view content.extras.now)
+    (sources_view content.sources.now) (computation_view content.traces.now) (pairs_view content.pairs.now)
+    (outcome_view content.outcome)))

@@ -1,7 +1,8 @@
 -- The width and what is asked for, part by part.
 use Rattle.std.proofs.Common.{◌∙◌, ◌++◌, ℕ, List, ap}
 use Rattle.std.specs.Prelude.{codes, decimal}
-use Rattle.out_page.specs.Pages.{limits_text, truth_text}
+use Rattle.out_page.specs.Pages.{truth_text}
+use Rattle.out_page.specs.Written.{limits_text}
 use Rattle.out_page.proofs.Parts.{four_parts}
 use Rattle.pd_spec.specs.Views.{document_view}
 use Rattle.out_page.proofs.page_data.push_limits.Goals as goal

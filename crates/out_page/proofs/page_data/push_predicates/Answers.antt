@@ -1,7 +1,7 @@
 -- The first one, and then each after its comma.
 use Rattle.std.proofs.Common.{arith}
 use Rattle.std.proofs.lemmas.List.{take_all}
-use Rattle.out_page.specs.PredicateData.{named_text}
+use Rattle.out_page.specs.Written.{named_text}
 use Rattle.pd_spec.specs.Named.{named_view}
 use Rattle.out_page.proofs.Listed.{listed_seen}
 use Rattle.out_page.proofs.page_data.push_predicates.Goals as goal

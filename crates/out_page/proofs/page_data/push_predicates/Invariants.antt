@@ -1,7 +1,7 @@
 -- The others so far.
 use Rattle.std.proofs.Common.{◌≡◌, ◌∷◌, ◌++◌, take}
 use Rattle.std.specs.Prelude.{flat_map}
-use Rattle.out_page.specs.PredicateData.{named_text}
+use Rattle.out_page.specs.Written.{named_text}
 use Rattle.pd_spec.specs.Named.{named_view}
 use Rattle.out_page.proofs.page_data.push_predicates.Given as goal
 

@@ -1,7 +1,7 @@
 -- The field, part by part.
 use Rattle.std.specs.Prelude.{codes}
 use Rattle.out_page.specs.JsonTexts.{listed}
-use Rattle.out_page.specs.Pages.{sources_text}
+use Rattle.out_page.specs.Written.{sources_text}
 use Rattle.out_page.specs.SourceData.{source_text}
 use Rattle.out_page.specs.Views.{sources_view}
 use Rattle.out_page.proofs.Parts.{three_parts}

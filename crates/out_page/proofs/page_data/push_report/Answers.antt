@@ -5,8 +5,7 @@ use Rattle.def_format.specs.Documents.{NamedPredicate}
 use Rattle.def_format.specs.Names.{ProcessNames}
 use Rattle.out_page.specs.AnswerData.{outcome_text}
 use Rattle.out_page.specs.JsonTexts.{listed}
-use Rattle.out_page.specs.Pages.{report_text}
-use Rattle.out_page.specs.PredicateData.{named_text}
+use Rattle.out_page.specs.Written.{named_text, report_text}
 use Rattle.out_page.specs.Views.{outcome_view}
 use Rattle.out_page.proofs.Parts.{four_parts}
 use Rattle.pd_spec.specs.Views.{document_view}

@@ -3,7 +3,7 @@ use Rattle.std.specs.Prelude.{codes}
 use Rattle.pd_match.specs.Views.{pairs_view}
 use Rattle.out_page.specs.EventData.{events_text, message_text}
 use Rattle.out_page.specs.JsonTexts.{listed}
-use Rattle.out_page.specs.Pages.{run_text}
+use Rattle.out_page.specs.Written.{run_text}
 use Rattle.out_page.proofs.Parts.{five_parts}
 use Rattle.read_traces.specs.Views.{computation_view}
 use Rattle.out_page.proofs.page_data.push_run.Goals as goal

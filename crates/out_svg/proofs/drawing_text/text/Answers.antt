@@ -19,7 +19,8 @@ returns c =
     (flat_map shape_text drawing.shapes.items) (codes "</svg>\n")
     (c.in_ok-push_root.ensures ∙ ap (λ (out : List ℕ). out ++ root) c.new-out.ensures.items)
     (c.in_ok-push_labelled.ensures
-    ∙ ap (λ (text : List ℕ). c.push_root.new.out.items ++ labelled (codes "title") (codes "title") text) c.deref.ensures)
+    ∙ ap (λ (text : List ℕ). c.push_root.new.out.items ++ labelled (codes "title") (codes "title") text)
+    c.deref.ensures)
     (c.in_ok-push_labelled-2.ensures
     ∙ ap (λ (text : List ℕ). c.push_labelled.new.out.items ++ labelled (codes "desc") (codes "description") text)
     c.deref-2.ensures)
