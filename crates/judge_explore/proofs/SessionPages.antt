@@ -85,7 +85,7 @@ pub inputs_page : (inquiry : Inquiry) (extras : Extras) (files : List StreamFile
     (traces : List Trace) (IsSaid : Report → Type 0) (text : List ℕ)
     → IsDocument inquiry document → AreGiven document inputs count results
     → session document.names count results ≡ Ok traces
-    → sources ≡ sources_of document.names files (events_of_traces traces)
+    → sources ≡ sources_of document.names files 0 (events_of_traces traces)
     → IsPageOfTraces document extras sources traces IsSaid text
     → IsPageOfInputs inquiry extras files inputs IsSaid text
 inputs_page inquiry extras files inputs document count results sources traces IsSaid text is given joined

@@ -54,7 +54,7 @@ pub record IsPageOf (inquiry : Inquiry) (extras : Extras) (files : List StreamFi
   pub right : IsJudgement inquiry streams (report_with document traces messages outcome)
   pub truth : IsTrueReport inquiry streams (report_with document traces messages outcome)
   pub said : IsSaid (report_with document traces messages outcome)
-  pub is_text : text ≡ page_text document extras (sources_of document.names files (events_of_traces traces))
+  pub is_text : text ≡ page_text document extras (sources_of document.names files 0 (events_of_traces traces))
       (events_of_traces traces) pairs outcome
 
 -- the same of the streams that these sources gave

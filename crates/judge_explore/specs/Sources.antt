@@ -15,12 +15,9 @@ pub record StreamFile : Type 0 where
   pub join : List ℕ
   pub lines : List ℕ
 
--- a file of which only the name is known
-abbrev pub unread_file : List ℕ → StreamFile
-unread_file name = record { name = name; join = []; lines = [] }
-
+-- the file of this name that has these lines; if none is known, only the name is
 abbrev pub file_of_lines : List ℕ → List Line → StreamFile
-file_of_lines name [] = unread_file name
+file_of_lines name [] = record { name = name; join = []; lines = [] }
 file_of_lines name (first ∷ later) =
     record { name = name; join = first.bytes; lines = map (λ (line : Line). line.number) later }
 
@@ -34,30 +31,19 @@ abbrev pub is_join_of : ℕ → Result LineRecord RecordFault → Bool
 is_join_of process (Ok (Joins other)) = other == process
 is_join_of process _ = false
 
--- whether the file's first line joins this process
-abbrev pub joins : List ProcessNames → ℕ → StreamFile → Bool
-joins names process file = is_join_of process (record_of names None file.join)
-
--- Where this many events were recorded in this file: after the join each line that isn't blank has one, up to the end
--- line.
-abbrev pub source_of : StreamFile → (events : ℕ) → Source
-source_of file events = record { name = file.name; lines = take events file.lines }
-
--- where these events of a process were recorded: in the first file that joins it
+-- Where this many events of a process were recorded: in the first file whose first line joins it. After the join each
+-- line that isn't blank has an event, up to the end line.
 abbrev pub source_in : List ProcessNames → (process events : ℕ) → List StreamFile → Source
 source_in names process events [] = record { name = []; lines = [] }
-source_in names process events (file ∷ others) = if joins names process file then source_of file events
-    else source_in names process events others
+source_in names process events (file ∷ others) =
+    if is_join_of process (record_of names None file.join) then
+    record { name = file.name; lines = take events file.lines } else source_in names process events others
 
--- the same of each process from this one on
-abbrev pub sources_from : List ProcessNames → List StreamFile → ℕ → Computation → List Source
-sources_from names files process [] = []
-sources_from names files process (events ∷ others) =
-    source_in names process (length events) files ∷ sources_from names files (suc process) others
-
--- where the events of each process were recorded
-abbrev pub sources_of : List ProcessNames → List StreamFile → Computation → List Source
-sources_of names files events = sources_from names files 0 events
+-- the same of these processes, of which the first one has this number
+abbrev pub sources_of : List ProcessNames → List StreamFile → (process : ℕ) → Computation → List Source
+sources_of names files process [] = []
+sources_of names files process (events ∷ others) =
+    source_in names process (length events) files ∷ sources_of names files (suc process) others
 
 -- ---- files that are read again
 
@@ -70,7 +56,7 @@ stream_bytes bytes = take (stream_byte_limit + 1) bytes
 abbrev pub IsFileOf : (bytes_of : List ℕ → Option (List ℕ)) → (name : List ℕ) → StreamFile → Type 0
 IsFileOf bytes_of name file =
     (file.name ≡ name)
-    × IfSome (bytes_of name) (λ bytes. (file ≡ unread_file name) ⊎ (file ≡ stream_file name (stream_bytes bytes)))
+    × IfSome (bytes_of name) (λ bytes. (file ≡ file_of_lines name []) ⊎ (file ≡ stream_file name (stream_bytes bytes)))
 
 -- the files of these names, in their order
 abbrev pub AreFilesOf : (bytes_of : List ℕ → Option (List ℕ)) → (names : List (List ℕ)) → List StreamFile → Type 0

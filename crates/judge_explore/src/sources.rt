@@ -1,11 +1,12 @@
 //! Where the events of a session were recorded.
+ghost use Rattle.def_format.specs.Records.{record_of};
 ghost use Rattle.judge_explore.specs.EventLines.{EventsAreRecorded};
 ghost use Rattle.judge_explore.specs.FileViews.{file_view, files_view};
-ghost use Rattle.judge_explore.specs.Sources.{joins, source_in, source_of, sources_of};
+ghost use Rattle.judge_explore.specs.Sources.{is_join_of, source_in, sources_of};
 ghost use Rattle.out_page.specs.Views.{source_view, sources_view};
 ghost use Rattle.pd_spec.specs.Views.{document_view};
 ghost use Rattle.read_traces.specs.Views.{computation_view};
-ghost use Rattle.std.specs.Prelude.{◌≡◌, IfOk};
+ghost use Rattle.std.specs.Prelude.{◌≡◌, take, IfOk, None};
 
 use super::stream_file::StreamFile;
 use out_page::Source;
@@ -21,7 +22,8 @@ fn joins(
     process: usize,
     file: &StreamFile<'_>,
 ) -> Result<bool, AllocError>
-    ensures { IfOk result (λ found. found ≡ joins (document_view spec.now).names process (file_view file.now)) }
+    ensures { IfOk result (λ found. found ≡ is_join_of process
+        (record_of (document_view spec.now).names None (file_view file.now).join)) }
 {
     match read_record(alloc, spec, None, &file.join) {
         Ok(LineRecord::Join(other)) => Ok(other == process),
@@ -37,7 +39,8 @@ fn source_of<'a>(
     file: &StreamFile<'a>,
     events: usize,
 ) -> Result<Source<'a>, AllocError>
-    ensures { IfOk result (λ source. source_view source ≡ source_of (file_view file.now) events) }
+    ensures { IfOk result (λ source. source_view source
+        ≡ record { name = (file_view file.now).name; lines = take events (file_view file.now).lines }) }
 {
     let count = events.min(file.lines.len());
     let lines = Vec::from_slice(alloc, &file.lines[..count])?;
@@ -81,7 +84,7 @@ pub(crate) fn sources_of<'a>(
     traces: &[Trace],
 ) -> Result<Vec<Source<'a>>, AllocError>
     ensures { IfOk result (λ sources. sources_view sources.items
-        ≡ sources_of (document_view spec.now).names (files_view files.now) (computation_view traces.now)) }
+        ≡ sources_of (document_view spec.now).names (files_view files.now) 0 (computation_view traces.now)) }
 {
     let mut sources = Vec::with_capacity(alloc, traces.len())?;
     for process in 0..traces.len() {

@@ -1,8 +1,8 @@
 //! The files of a session's streams.
 ghost use Rattle.judge_explore.specs.FileViews.{file_view};
-ghost use Rattle.judge_explore.specs.Sources.{file_of_lines, stream_file, unread_file};
+ghost use Rattle.judge_explore.specs.Sources.{file_of_lines, stream_file};
 ghost use Rattle.pd_frames.specs.Views.{lines_view};
-ghost use Rattle.std.specs.Prelude.{◌≡◌, map, IfOk};
+ghost use Rattle.std.specs.Prelude.{◌≡◌, [], map, IfOk};
 
 use pd_frames::{Framer, Line};
 use std::alloc::{AllocError, Global};
@@ -48,7 +48,7 @@ fn file_of_lines<'a>(
 impl<'a> StreamFile<'a> {
     /// The file of this name, of which no more is known.
     pub fn unread(alloc: Global, name: &'a str) -> StreamFile<'a>
-        ensures { file_view result ≡ unread_file name.now }
+        ensures { file_view result ≡ file_of_lines name.now [] }
     {
         StreamFile {
             name,

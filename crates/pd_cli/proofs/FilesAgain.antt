@@ -5,7 +5,7 @@ use Rattle.std.specs.List.{AllZip, slice_index_or}
 use Rattle.std.proofs.lemmas.List.{map-append}
 use Rattle.std.proofs.Math.Seq.{take-suc}
 use Rattle.def_format.specs.Lines.{Line, finished_lines}
-use Rattle.judge_explore.specs.Sources.{IsFileOf, StreamFile, file_of_lines, stream_bytes, stream_file, unread_file}
+use Rattle.judge_explore.specs.Sources.{IsFileOf, StreamFile, file_of_lines, stream_bytes, stream_file}
 use Rattle.app_host.proofs.FilesRead.{zip_on}
 
 named : (name : List ℕ) (lines : List Line) → (file_of_lines name lines).name ≡ name
@@ -20,17 +20,17 @@ file_read bytes_of name given file known same =
     (ap (λ (f : StreamFile). f.name) same ∙ named name (finished_lines given), go (bytes_of name) known)
   where
     go : (held : Option (List ℕ)) → IfSome held (λ bytes. given ≡ stream_bytes bytes)
-        → IfSome held (λ bytes. (file ≡ unread_file name) ⊎ (file ≡ stream_file name (stream_bytes bytes)))
+        → IfSome held (λ bytes. (file ≡ file_of_lines name []) ⊎ (file ≡ stream_file name (stream_bytes bytes)))
     go None all = tt
     go (Some bytes) all = inr (same ∙ ap (λ (g : List ℕ). stream_file name g) all)
 
 -- a file that wasn't
-pub file_unread : (bytes_of : List ℕ → Option (List ℕ)) (name : List ℕ) (file : StreamFile) → file ≡ unread_file name
-    → IsFileOf bytes_of name file
+pub file_unread : (bytes_of : List ℕ → Option (List ℕ)) (name : List ℕ) (file : StreamFile)
+    → file ≡ file_of_lines name [] → IsFileOf bytes_of name file
 file_unread bytes_of name file same = (ap (λ (f : StreamFile). f.name) same, go (bytes_of name))
   where
     go : (held : Option (List ℕ))
-        → IfSome held (λ bytes. (file ≡ unread_file name) ⊎ (file ≡ stream_file name (stream_bytes bytes)))
+        → IfSome held (λ bytes. (file ≡ file_of_lines name []) ⊎ (file ≡ stream_file name (stream_bytes bytes)))
     go None = tt
     go (Some bytes) = inl same
 

@@ -57,10 +57,10 @@ returns-clause-page g c =
     let results = results_view c.in_ok-gathered.gathered.readings.items in
     let traces = traces_view c.in_ok-traces.traces.items in
     let sources = sources_view c.in_ok-sources.sources.items in
-    let recorded : sources ≡ sources_of document.names files (events_of_traces traces) =
+    let recorded : sources ≡ sources_of document.names files 0 (events_of_traces traces) =
     c.in_ok-sources.ensures
-    ∙ ap (λ (all : List Trace). sources_of document.names files (computation_view all)) c.deref.ensures.value
-    ∙ ap (λ (events : Computation). sources_of document.names files events)
+    ∙ ap (λ (all : List Trace). sources_of document.names files 0 (computation_view all)) c.deref.ensures.value
+    ∙ ap (λ (events : Computation). sources_of document.names files 0 events)
     (same_events c.in_ok-traces.traces.items) in
     IfOk-weaker c.page_of_traces.result
     (λ page. IsPageOfTraces document extras sources traces (IsGiven (Ok page.report)) page.text.items)
