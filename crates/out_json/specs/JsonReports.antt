@@ -1,4 +1,5 @@
 -- A report as one JSON object. The fields of each object stand in byte order of their names.
+use Prim.Native.String.{String}
 use Rattle.std.specs.Prelude.{ℕ, suc, List, [], ◌∷◌, ◌++◌, codes, cond, map}
 use Rattle.std.specs.Str.{bytes_eq}
 use Rattle.serde_json.specs.Data.{Data, number, string, array, object, unsigned, no_items, item, Members, no_members, member, put}
@@ -10,6 +11,14 @@ use Rattle.def_format.specs.Reports.{Possibly, Definitely, Answer, NamedPlace, R
 
 abbrev pub number_data : ℕ → Data
 number_data n = number (unsigned n)
+
+-- a word, as a text
+abbrev pub text : String → Data
+text word = string (codes word)
+
+-- a field of this name, and more of them
+abbrev pub field : (name : String) → Data → Members → Members
+field name = member (codes name)
 
 -- a name with a number
 abbrev pub pair_data : List ℕ → ℕ → Data
@@ -47,33 +56,25 @@ runs (name ∷ others) = runs_from name 1 others
 abbrev pub run_data : Run → Data
 run_data run = pair_data run.name run.count
 
-abbrev pub unknown_data : ℕ → Data
-unknown_data level =
-    object (member (codes "answer") (string (codes "unknown"))
-    (member (codes "level") (number_data level) no_members))
+-- an answer of this word, and what stands beside it
+abbrev pub answered : (word : String) → Members → Data
+answered word more = object (field "answer" (text word) more)
 
 abbrev pub possibly_data : List ProcessNames → Possibly → Data
-possibly_data names (Possibly.Yes counts) =
-    object (member (codes "answer") (string (codes "yes")) (member (codes "cut") (cut_data names counts) no_members))
-possibly_data names Possibly.No = object (member (codes "answer") (string (codes "no")) no_members)
-possibly_data names (Possibly.Unknown level) = unknown_data level
+possibly_data names (Possibly.Yes counts) = answered "yes" (field "cut" (cut_data names counts) no_members)
+possibly_data names Possibly.No = answered "no" no_members
+possibly_data names (Possibly.Unknown level) = answered "unknown" (field "level" (number_data level) no_members)
 
 abbrev pub definitely_data : Definitely → Data
-definitely_data (Definitely.Yes level) =
-    object (member (codes "answer") (string (codes "yes")) (member (codes "level") (number_data level) no_members))
+definitely_data (Definitely.Yes level) = answered "yes" (field "level" (number_data level) no_members)
 definitely_data (Definitely.No path) =
-    object (member (codes "answer") (string (codes "no"))
-    (member (codes "path") (array (items_of (map run_data (runs path)))) no_members))
-definitely_data (Definitely.Unknown level) = unknown_data level
+    answered "no" (field "path" (array (items_of (map run_data (runs path)))) no_members)
+definitely_data (Definitely.Unknown level) = answered "unknown" (field "level" (number_data level) no_members)
 
 abbrev pub answer_data : List ProcessNames → Answer → Data
 answer_data names answer =
-    object (member (codes "definitely") (definitely_data answer.definitely)
-    (member (codes "name") (string answer.name)
-    (member (codes "possibly") (possibly_data names answer.possibly) no_members)))
-
-abbrev pub answers_data : List ProcessNames → List Answer → Data
-answers_data names answers = array (items_of (map (answer_data names) answers))
+    object (field "definitely" (definitely_data answer.definitely) (field "name" (string answer.name)
+    (field "possibly" (possibly_data names answer.possibly) no_members)))
 
 -- ---- refusals
 
@@ -81,48 +82,34 @@ abbrev pub place_data : NamedPlace → Data
 place_data place = pair_data place.name place.number
 
 abbrev pub refusal_data : Refusal → Data
-refusal_data (Spec word) =
-    object (member (codes "family") (string (codes "document")) (member (codes "word") (string word) no_members))
+refusal_data (Spec word) = object (field "family" (text "document") (field "word" (string word) no_members))
 refusal_data (Predicate n word at) =
-    object (member (codes "at") (number_data at)
-    (member (codes "family") (string (codes "predicate"))
-    (member (codes "predicate") (number_data n) (member (codes "word") (string word) no_members))))
-refusal_data Streams = object (member (codes "family") (string (codes "streams")) no_members)
+    object (field "at" (number_data at) (field "family" (text "predicate") (field "predicate" (number_data n)
+    (field "word" (string word) no_members))))
+refusal_data Streams = object (field "family" (text "streams") no_members)
 refusal_data (Stream stream line word) =
-    object (member (codes "family") (string (codes "stream"))
-    (member (codes "line") (number_data line)
-    (member (codes "stream") (number_data stream) (member (codes "word") (string word) no_members))))
-refusal_data (Absent name) =
-    object (member (codes "family") (string (codes "absent")) (member (codes "process") (string name) no_members))
+    object (field "family" (text "stream") (field "line" (number_data line) (field "stream" (number_data stream)
+    (field "word" (string word) no_members))))
+refusal_data (Absent name) = object (field "family" (text "absent") (field "process" (string name) no_members))
 refusal_data (Match word place) =
-    object (member (codes "event") (number_data place.number)
-    (member (codes "family") (string (codes "match"))
-    (member (codes "process") (string place.name) (member (codes "word") (string word) no_members))))
+    object (field "event" (number_data place.number) (field "family" (text "match")
+    (field "process" (string place.name) (field "word" (string word) no_members))))
 refusal_data (Cycle places) =
-    object (member (codes "events") (array (items_of (map place_data places)))
-    (member (codes "family") (string (codes "cycle")) no_members))
+    object (field "events" (array (items_of (map place_data places))) (field "family" (text "cycle") no_members))
 
 -- ---- the report
 
--- the version of this format
-abbrev pub format_number : ℕ
-format_number = 1
-
--- These are the names of the session's processes, to which the counts of cuts belong.
+-- The field `format` has the version of this format. The names are those of the session's processes, to which the
+-- counts of cuts belong.
 abbrev pub json_of : (names : List ProcessNames) → Report → Data
 json_of names (Judged processes events messages answers) =
-    object (member (codes "events") (number_data events)
-    (member (codes "format") (number_data format_number)
-    (member (codes "messages") (number_data messages)
-    (member (codes "outcome") (string (codes "judged"))
-    (member (codes "predicates") (answers_data names answers)
-    (member (codes "processes") (number_data processes)
-    (member (codes "report") (string (report_text (Judged processes events messages answers))) no_members)))))))
+    object (field "events" (number_data events) (field "format" (number_data 1) (field "messages" (number_data messages)
+    (field "outcome" (text "judged") (field "predicates" (array (items_of (map (answer_data names) answers)))
+    (field "processes" (number_data processes)
+    (field "report" (string (report_text (Judged processes events messages answers))) no_members)))))))
 json_of names (Refused refusal) =
-    object (member (codes "format") (number_data format_number)
-    (member (codes "outcome") (string (codes "refused"))
-    (member (codes "refusal") (refusal_data refusal)
-    (member (codes "report") (string (report_text (Refused refusal))) no_members))))
+    object (field "format" (number_data 1) (field "outcome" (text "refused") (field "refusal" (refusal_data refusal)
+    (field "report" (string (report_text (Refused refusal))) no_members))))
 
 -- the object without spaces, in one line
 abbrev pub json_text : (names : List ProcessNames) → Report → List ℕ

@@ -1,5 +1,5 @@
 //! The answers of a report, as JSON values.
-ghost use Rattle.out_json.specs.JsonReports.{answer_data, definitely_data, possibly_data, unknown_data, with_counts};
+ghost use Rattle.out_json.specs.JsonReports.{answer_data, answered, definitely_data, field, number_data, possibly_data, with_counts};
 ghost use Rattle.pd_report.specs.Views.{answer_view, definitely_view, possibly_view};
 ghost use Rattle.serde_json.specs.Data.{no_members};
 ghost use Rattle.serde_json.specs.View.{members_view, view};
@@ -34,7 +34,7 @@ fn cut_fields(
 
 /// That it is unknown, by this level.
 fn unknown_value(alloc: Global, level: u64) -> Result<Value, AllocError>
-    ensures { IfOk result (λ value. view value ≡ unknown_data level) }
+    ensures { IfOk result (λ value. view value ≡ answered "unknown" (field "level" (number_data level) no_members)) }
 {
     json!(in alloc; {"answer": "unknown", "level": level})
 }
