@@ -4,7 +4,8 @@ use Rattle.std.specs.Prelude.{MatchOption}
 use Rattle.clap.specs.Walk.{Text}
 use Rattle.app_arguments.specs.Arguments.{AreConditions}
 use Rattle.app_arguments.specs.ConditionViews.{fail_on_view}
-use Rattle.app_arguments.specs.Conditions.{AreLawful, Condition, list_text}
+use Rattle.app_arguments.specs.Conditions.{AreLawful, list_text}
+use Rattle.judge_runs.specs.Wishes.{Condition}
 use Rattle.app_arguments.specs.Views.{Finds}
 use Rattle.app_arguments.specs.declared.fail_on.FailOn.{FailOn}
 

@@ -4,7 +4,8 @@ use Rattle.std.specs.Prelude.{not, ◌==◌, IfSome}
 use Rattle.std.specs.List.{AllByRecursion}
 use Rattle.def_format.specs.Reports.{IsName}
 use Rattle.def_format.proofs.OneReport.{Lacks, all-append}
-use Rattle.app_arguments.specs.Conditions.{Condition, IsLawful, Kind, colon, condition_text, kind_text, text_for}
+use Rattle.app_arguments.specs.Conditions.{IsLawful, colon, condition_text, kind_text, text_for}
+use Rattle.judge_runs.specs.Wishes.{Condition, Kind}
 use Rattle.app_arguments.proofs.Parts.{kind_lacks_comma, name_lacks_comma}
 
 text_lacks : (name : Option (List ℕ)) (kind : Kind) → IfSome name IsName → Lacks 44 (text_for name kind)

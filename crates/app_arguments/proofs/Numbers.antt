@@ -64,7 +64,8 @@ finds_none P view (Some a) some is = cc
 pub no_workers : (rows : List Row) (r : Option Workers)
     → Finds (NamesWorkers rows) (λ (workers : Workers). workers.number) r → r ≡ None → ¬ HasWorkers rows
 no_workers rows r found is names =
-    finds_none (NamesWorkers rows) (λ (workers : Workers). workers.number) r found is names.0 names.1
+    finds_none (NamesWorkers rows) (λ (workers : Workers). workers.number) r found is names.0
+    (names.1, (names.2, names.3))
 
 -- the number of an option that has none
 pub no_place : (rows : List Row) (address path file : Option Text) (number : Option ℕ)

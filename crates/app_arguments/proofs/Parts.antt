@@ -7,7 +7,8 @@ use Rattle.std.proofs.lemmas.Bool.Decides.{nat_tests}
 use Rattle.def_format.specs.Reports.{IsName}
 use Rattle.def_format.proofs.OneReport.{Lacks, in_word_lacks, name_in_word}
 use Rattle.pd_report.specs.Reading.{IsFoundAs}
-use Rattle.app_arguments.specs.Conditions.{Kind, PossiblyYes, PossiblyNo, DefinitelyYes, DefinitelyNo, SomeUnknown, IsLawful, colon, condition_text, kind_text, text_for}
+use Rattle.app_arguments.specs.Conditions.{IsLawful, colon, condition_text, kind_text, text_for}
+use Rattle.judge_runs.specs.Wishes.{Kind, PossiblyYes, PossiblyNo, DefinitelyYes, DefinitelyNo, SomeUnknown}
 use Rattle.app_arguments.specs.ConditionViews.{IsNamed, IsOnName, condition_view}
 use Rattle.app_arguments.specs.declared.condition.Condition.{Condition}
 

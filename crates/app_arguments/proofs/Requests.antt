@@ -2,29 +2,29 @@
 use Rattle.std.proofs.Common.{◌≡◌, ◌∙◌, ℕ, List, Option, Some, None, codes, false, refl, sym, true≢false}
 use Rattle.std.proofs.lemmas.Slice.Eq.{bytes_eq-Decides}
 use Rattle.std.specs.Str.{bytes_eq}
-use Rattle.clap.specs.Words.{Row, Text}
+use Rattle.std.specs.Prelude.{unwrap_or}
+use Rattle.clap.specs.Words.{Row, Text, all_of, first_of}
 use Rattle.def_format.specs.Documents.{Options}
-use Rattle.judge_runs.specs.Wishes.{Wish}
+use Rattle.judge_runs.specs.Wishes.{Condition}
 use Rattle.out_picture.specs.Scopes.{Scope}
-use Rattle.app_arguments.specs.Arguments.{HasWorkers, Names, NamesBy, NamesJudgement, NamesService}
-use Rattle.app_arguments.specs.Views.{FindsJudgement, FindsService}
+use Rattle.app_arguments.specs.Arguments.{HasWorkers, NamesAllOptions, NamesBy, NamesJudging, NamesOptions, NamesPage, NamesScope, NamesService, NamesSession, NamesTest}
+use Rattle.app_arguments.specs.Views.{FindsJudgement, FindsService, NamesJudgement}
 use Rattle.app_arguments.specs.declared.request.Judgement.{Judgement}
 use Rattle.app_arguments.specs.declared.request.Service.{Service}
-use Rattle.app_arguments.specs.Conditions.{Condition}
-use Rattle.app_arguments.specs.Formats.{Format}
+use Rattle.app_arguments.specs.Formats.{Format, format_text}
 use Rattle.app_arguments.specs.Places.{Place}
-use Rattle.app_arguments.proofs.Numbers.{some_same}
 use Rattle.app_arguments.specs.Statuses.{PageOptions, Request, JudgeInput, JudgeFiles, CheckFiles, DrawFiles, ServeStreams, ExploreFiles, TestRuns, InferDocument, ShowHelp, ShowVersion, Unclear}
 
-differ : (a b : Text) → bytes_eq a b ≡ false → Some a ≡ Some b → ⊥
-differ a b other same = true≢false (sym ((bytes_eq-Decides a b).1 (some_same a b same)) ∙ other)
+differ : (a b : Text) → bytes_eq a b ≡ false → b ≡ a → ⊥
+differ a b other same = true≢false (sym ((bytes_eq-Decides a b).1 (sym same)) ∙ other)
 
 pub judge_lacks : (rows : List Row)
     → ((options : Options) (fail_on : List Condition) (format : Format) (document : Text) (streams : List Text)
-    → ¬ Names rows (JudgeFiles options fail_on format document streams))
+    → ¬ (NamesSession rows (codes "STREAM") document streams × NamesJudging rows options fail_on
+    × (unwrap_or (first_of (codes "FORMAT") rows) (codes "text") ≡ format_text format)))
     → (request : Request) → ¬ NamesBy (codes "judge") rows request
 judge_lacks rows none (JudgeFiles options fail_on format document streams) names =
-    none options fail_on format document streams names.1
+    none options fail_on format document streams (names.1, names.2, names.3)
 judge_lacks rows none (CheckFiles options document report streams) names =
     differ (codes "check") (codes "judge") refl names.0
 judge_lacks rows none (DrawFiles options scope document files) names =
@@ -37,18 +37,20 @@ judge_lacks rows none (TestRuns options wishes runs) names =
     differ (codes "test") (codes "judge") refl names.0
 judge_lacks rows none (InferDocument streams) names =
     differ (codes "infer") (codes "judge") refl names.0
-judge_lacks rows none JudgeInput names = names.1
-judge_lacks rows none ShowHelp names = names.1
-judge_lacks rows none ShowVersion names = names.1
-judge_lacks rows none Unclear names = names.1
+judge_lacks rows none JudgeInput names = names
+judge_lacks rows none ShowHelp names = names
+judge_lacks rows none ShowVersion names = names
+judge_lacks rows none Unclear names = names
 
 pub check_lacks : (rows : List Row)
     → ((options : Options) (document : Text) (report : Text) (streams : List Text)
-    → ¬ Names rows (CheckFiles options document report streams))
+    → ¬ (NamesSession rows (codes "STREAM") document streams × NamesOptions rows options
+    × (options.beyond_width ≡ false) × (first_of (codes "REPORT") rows ≡ Some report)))
     → (request : Request) → ¬ NamesBy (codes "check") rows request
 check_lacks rows none (JudgeFiles options fail_on format document streams) names =
     differ (codes "judge") (codes "check") refl names.0
-check_lacks rows none (CheckFiles options document report streams) names = none options document report streams names.1
+check_lacks rows none (CheckFiles options document report streams) names =
+    none options document report streams (names.1, names.2, names.3, names.4)
 check_lacks rows none (DrawFiles options scope document files) names =
     differ (codes "draw") (codes "check") refl names.0
 check_lacks rows none (ServeStreams options fail_on document place port_file watchers wait keep) names =
@@ -59,21 +61,21 @@ check_lacks rows none (TestRuns options wishes runs) names =
     differ (codes "test") (codes "check") refl names.0
 check_lacks rows none (InferDocument streams) names =
     differ (codes "infer") (codes "check") refl names.0
-check_lacks rows none JudgeInput names = names.1
-check_lacks rows none ShowHelp names = names.1
-check_lacks rows none ShowVersion names = names.1
-check_lacks rows none Unclear names = names.1
+check_lacks rows none JudgeInput names = names
+check_lacks rows none ShowHelp names = names
+check_lacks rows none ShowVersion names = names
+check_lacks rows none Unclear names = names
 
 pub draw_lacks : (rows : List Row)
     → ((options : Options) (scope : Scope) (document : Text) (files : List Text)
-    → ¬ Names rows (DrawFiles options scope document files))
+    → ¬ (NamesSession rows (codes "FILE") document files × NamesAllOptions rows options × NamesScope rows scope))
     → (request : Request) → ¬ NamesBy (codes "draw") rows request
 draw_lacks rows none (JudgeFiles options fail_on format document streams) names =
     differ (codes "judge") (codes "draw") refl names.0
 draw_lacks rows none (CheckFiles options document report streams) names =
     differ (codes "check") (codes "draw") refl names.0
 draw_lacks rows none (DrawFiles options scope document files) names =
-    none options scope document files names.1
+    none options scope document files (names.1, names.2, names.3)
 draw_lacks rows none (ServeStreams options fail_on document place port_file watchers wait keep) names =
     differ (codes "serve") (codes "draw") refl names.0
 draw_lacks rows none (ExploreFiles options fail_on page document streams) names =
@@ -82,15 +84,15 @@ draw_lacks rows none (TestRuns options wishes runs) names =
     differ (codes "test") (codes "draw") refl names.0
 draw_lacks rows none (InferDocument streams) names =
     differ (codes "infer") (codes "draw") refl names.0
-draw_lacks rows none JudgeInput names = names.1
-draw_lacks rows none ShowHelp names = names.1
-draw_lacks rows none ShowVersion names = names.1
-draw_lacks rows none Unclear names = names.1
+draw_lacks rows none JudgeInput names = names
+draw_lacks rows none ShowHelp names = names
+draw_lacks rows none ShowVersion names = names
+draw_lacks rows none Unclear names = names
 
 pub serve_lacks : (rows : List Row)
     → ((options : Options) (fail_on : List Condition) (document : Text) (place : Place) (port_file : Option Text)
     (watchers : ℕ) (wait : Option ℕ) (keep : Option Text)
-    → ¬ Names rows (ServeStreams options fail_on document place port_file watchers wait keep))
+    → ¬ (NamesService rows document place port_file watchers wait keep × NamesJudging rows options fail_on))
     → (request : Request) → ¬ NamesBy (codes "serve") rows request
 serve_lacks rows none (JudgeFiles options fail_on format document streams) names =
     differ (codes "judge") (codes "serve") refl names.0
@@ -99,21 +101,22 @@ serve_lacks rows none (CheckFiles options document report streams) names =
 serve_lacks rows none (DrawFiles options scope document files) names =
     differ (codes "draw") (codes "serve") refl names.0
 serve_lacks rows none (ServeStreams options fail_on document place port_file watchers wait keep) names =
-    none options fail_on document place port_file watchers wait keep names.1
+    none options fail_on document place port_file watchers wait keep (names.1, names.2)
 serve_lacks rows none (ExploreFiles options fail_on page document streams) names =
     differ (codes "explore") (codes "serve") refl names.0
 serve_lacks rows none (TestRuns options wishes runs) names =
     differ (codes "test") (codes "serve") refl names.0
 serve_lacks rows none (InferDocument streams) names =
     differ (codes "infer") (codes "serve") refl names.0
-serve_lacks rows none JudgeInput names = names.1
-serve_lacks rows none ShowHelp names = names.1
-serve_lacks rows none ShowVersion names = names.1
-serve_lacks rows none Unclear names = names.1
+serve_lacks rows none JudgeInput names = names
+serve_lacks rows none ShowHelp names = names
+serve_lacks rows none ShowVersion names = names
+serve_lacks rows none Unclear names = names
 
 pub explore_lacks : (rows : List Row)
     → ((options : Options) (fail_on : List Condition) (page : PageOptions) (document : Text) (streams : List Text)
-    → ¬ Names rows (ExploreFiles options fail_on page document streams))
+    → ¬ (NamesSession rows (codes "STREAM") document streams × NamesJudging rows options fail_on
+    × NamesPage rows page))
     → (request : Request) → ¬ NamesBy (codes "explore") rows request
 explore_lacks rows none (JudgeFiles options fail_on format document streams) names =
     differ (codes "judge") (codes "explore") refl names.0
@@ -124,19 +127,19 @@ explore_lacks rows none (DrawFiles options scope document files) names =
 explore_lacks rows none (ServeStreams options fail_on document place port_file watchers wait keep) names =
     differ (codes "serve") (codes "explore") refl names.0
 explore_lacks rows none (ExploreFiles options fail_on page document streams) names =
-    none options fail_on page document streams names.1
+    none options fail_on page document streams (names.1, names.2, names.3)
 explore_lacks rows none (TestRuns options wishes runs) names =
     differ (codes "test") (codes "explore") refl names.0
 explore_lacks rows none (InferDocument streams) names =
     differ (codes "infer") (codes "explore") refl names.0
-explore_lacks rows none JudgeInput names = names.1
-explore_lacks rows none ShowHelp names = names.1
-explore_lacks rows none ShowVersion names = names.1
-explore_lacks rows none Unclear names = names.1
+explore_lacks rows none JudgeInput names = names
+explore_lacks rows none ShowHelp names = names
+explore_lacks rows none ShowVersion names = names
+explore_lacks rows none Unclear names = names
 
 pub test_lacks : (rows : List Row)
-    → ((options : Options) (wishes : List Wish) (runs : List Text)
-    → ¬ Names rows (TestRuns options wishes runs))
+    → ((options : Options) (wishes : List Condition) (runs : List Text)
+    → ¬ NamesTest rows runs options wishes)
     → (request : Request) → ¬ NamesBy (codes "test") rows request
 test_lacks rows none (JudgeFiles options fail_on format document streams) names =
     differ (codes "judge") (codes "test") refl names.0
@@ -151,12 +154,12 @@ test_lacks rows none (ExploreFiles options fail_on page document streams) names 
 test_lacks rows none (TestRuns options wishes runs) names = none options wishes runs names.1
 test_lacks rows none (InferDocument streams) names =
     differ (codes "infer") (codes "test") refl names.0
-test_lacks rows none JudgeInput names = names.1
-test_lacks rows none ShowHelp names = names.1
-test_lacks rows none ShowVersion names = names.1
-test_lacks rows none Unclear names = names.1
+test_lacks rows none JudgeInput names = names
+test_lacks rows none ShowHelp names = names
+test_lacks rows none ShowVersion names = names
+test_lacks rows none Unclear names = names
 
-pub infer_lacks : (rows : List Row) → ((streams : List Text) → ¬ Names rows (InferDocument streams))
+pub infer_lacks : (rows : List Row) → ((streams : List Text) → ¬ (all_of (codes "STREAM") rows ≡ Some streams))
     → (request : Request) → ¬ NamesBy (codes "infer") rows request
 infer_lacks rows none (JudgeFiles options fail_on format document streams) names =
     differ (codes "judge") (codes "infer") refl names.0
@@ -171,10 +174,10 @@ infer_lacks rows none (ExploreFiles options fail_on page document streams) names
 infer_lacks rows none (TestRuns options wishes runs) names =
     differ (codes "test") (codes "infer") refl names.0
 infer_lacks rows none (InferDocument streams) names = none streams names.1
-infer_lacks rows none JudgeInput names = names.1
-infer_lacks rows none ShowHelp names = names.1
-infer_lacks rows none ShowVersion names = names.1
-infer_lacks rows none Unclear names = names.1
+infer_lacks rows none JudgeInput names = names
+infer_lacks rows none ShowHelp names = names
+infer_lacks rows none ShowVersion names = names
+infer_lacks rows none Unclear names = names
 
 -- a word that is no command's names nothing
 pub no_command : (command : Text) (rows : List Row) → ¬ (command ≡ codes "judge") → ¬ (command ≡ codes "check")
@@ -182,23 +185,23 @@ pub no_command : (command : Text) (rows : List Row) → ¬ (command ≡ codes "j
     → ¬ (command ≡ codes "test") → ¬ (command ≡ codes "infer")
     → (request : Request) → ¬ NamesBy command rows request
 no_command command rows a b c d e f g (JudgeFiles options fail_on format document streams) names =
-    a (sym (some_same (codes "judge") command names.0))
+    a names.0
 no_command command rows a b c d e f g (CheckFiles options document report streams) names =
-    b (sym (some_same (codes "check") command names.0))
+    b names.0
 no_command command rows a b c d e f g (DrawFiles options scope document files) names =
-    c (sym (some_same (codes "draw") command names.0))
+    c names.0
 no_command command rows a b c d e f g (ServeStreams options fail_on document place port_file watchers wait keep) names =
-    d (sym (some_same (codes "serve") command names.0))
+    d names.0
 no_command command rows a b c d e f g (ExploreFiles options fail_on page document streams) names =
-    e (sym (some_same (codes "explore") command names.0))
+    e names.0
 no_command command rows a b c d e f g (TestRuns options wishes runs) names =
-    f (sym (some_same (codes "test") command names.0))
+    f names.0
 no_command command rows a b c d e f g (InferDocument streams) names =
-    g (sym (some_same (codes "infer") command names.0))
-no_command command rows a b c d e f g JudgeInput names = names.1
-no_command command rows a b c d e f g ShowHelp names = names.1
-no_command command rows a b c d e f g ShowVersion names = names.1
-no_command command rows a b c d e f g Unclear names = names.1
+    g names.0
+no_command command rows a b c d e f g JudgeInput names = names
+no_command command rows a b c d e f g ShowHelp names = names
+no_command command rows a b c d e f g ShowVersion names = names
+no_command command rows a b c d e f g Unclear names = names
 
 -- a judgement of files that isn't found
 pub no_judgement : (rows : List Row) (found : Option Judgement) → FindsJudgement rows found → found ≡ None

@@ -1,29 +1,9 @@
 -- The answers that a script asks to fail on: conditions, the text of a list of them, the names in it, and what a report
 -- comes to.
-use Rattle.std.specs.Prelude.{ℕ, ◌<◌, ◌&&◌, ◌||◌, Bool, true, false, if◌then◌else◌, List, [], ◌∷◌, ◌++◌, codes, filter, flat_map, length, map, Option, Some, None, IfSome}
+use Rattle.std.specs.Prelude.{ℕ, ◌<◌, ◌&&◌, Bool, if◌then◌else◌, List, [], ◌∷◌, ◌++◌, codes, filter, flat_map, length, map, Option, Some, None, IfSome}
 use Rattle.std.specs.List.{AllByRecursion, list_any}
-use Rattle.def_format.specs.Reports.{Answer, Possibly, Definitely, Report, Judged, Refused, IsName, with_commas}
-use Rattle.judge_runs.specs.Wishes.{is_definitely_yes, is_for, is_possibly_no, is_possibly_yes, lacks_name}
-
--- ---- what is asked for
-
--- which answers
-pub data Kind : Type 0 where
-  -- some consistent cut satisfies the predicate
-  PossiblyYes : Kind
-  -- none does
-  PossiblyNo : Kind
-  -- every observation passes through a cut that satisfies it
-  DefinitelyYes : Kind
-  -- some observation passes through none
-  DefinitelyNo : Kind
-  -- one of the two questions has no answer within the width
-  SomeUnknown : Kind
-
--- the answers of this kind, of the predicate of this name, or of any if there is no name
-pub record Condition : Type 0 where
-  pub name : Option (List ℕ)
-  pub kind : Kind
+use Rattle.def_format.specs.Reports.{Answer, Report, Judged, Refused, IsName, with_commas}
+use Rattle.judge_runs.specs.Wishes.{Condition, DefinitelyNo, DefinitelyYes, Kind, PossiblyNo, PossiblyYes, SomeUnknown, is_for, is_of_kind, lacks_name}
 
 -- ---- the text of a list
 
@@ -34,13 +14,13 @@ kind_text DefinitelyYes = codes "definitely"
 kind_text DefinitelyNo = codes "definitely-no"
 kind_text SomeUnknown = codes "unknown"
 
--- the colon between a predicate's name and a kind
-abbrev pub colon : ℕ
-colon = 58
-
+-- a kind of answers, with the name of a predicate and a colon before it, or with none
 abbrev pub text_for : Option (List ℕ) → Kind → List ℕ
 text_for None kind = kind_text kind
-text_for (Some name) kind = name ++ colon ∷ kind_text kind
+text_for (Some name) kind = name ++ 58 ∷ kind_text kind
+
+abbrev pub colon : ℕ
+colon = 58
 
 abbrev pub condition_text : Condition → List ℕ
 condition_text condition = text_for condition.name condition.kind
@@ -50,7 +30,7 @@ abbrev pub IsLawful : Condition → Type 0
 IsLawful condition = IfSome condition.name IsName
 
 abbrev pub AreLawful : List Condition → Type 0
-AreLawful conditions = (0 < length conditions) × AllByRecursion IsLawful conditions
+AreLawful conditions = (0 < length conditions) × AllByRecursion (λ condition. IfSome condition.name IsName) conditions
 
 -- the texts of the conditions, with a comma between each two
 abbrev pub list_text : List Condition → List ℕ
@@ -70,29 +50,10 @@ unknown_name names (condition ∷ conditions) =
 
 -- ---- whether a report has such an answer
 
-abbrev pub is_possibly_unknown : Possibly → Bool
-is_possibly_unknown (Possibly.Unknown level) = true
-is_possibly_unknown _ = false
-
-abbrev pub is_definitely_no : Definitely → Bool
-is_definitely_no (Definitely.No path) = true
-is_definitely_no _ = false
-
-abbrev pub is_definitely_unknown : Definitely → Bool
-is_definitely_unknown (Definitely.Unknown level) = true
-is_definitely_unknown _ = false
-
--- an answer is of this kind
-abbrev pub is_of_kind : Kind → Answer → Bool
-is_of_kind PossiblyYes answer = is_possibly_yes answer.possibly
-is_of_kind PossiblyNo answer = is_possibly_no answer.possibly
-is_of_kind DefinitelyYes answer = is_definitely_yes answer.definitely
-is_of_kind DefinitelyNo answer = is_definitely_no answer.definitely
-is_of_kind SomeUnknown answer = is_possibly_unknown answer.possibly || is_definitely_unknown answer.definitely
-
 -- an answer is one of those that a condition asks for
 abbrev pub is_asked_for : Condition → Answer → Bool
-is_asked_for condition answer = is_for condition.name answer && is_of_kind condition.kind answer
+is_asked_for condition answer =
+    is_for condition.name answer && is_of_kind condition.kind answer.possibly answer.definitely
 
 -- one of the answers is
 abbrev pub is_met : List Answer → Condition → Bool

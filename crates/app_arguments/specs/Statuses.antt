@@ -5,11 +5,10 @@ use Rattle.def_format.specs.Documents.{Document, DocumentFault, IsDocument, IsRe
 use Rattle.def_format.specs.Limits.{document_byte_limit, report_byte_limit}
 use Rattle.def_format.specs.Reports.{Report}
 use Rattle.app_arguments.specs.Conditions as conditions
-use Rattle.app_arguments.specs.Conditions.{Condition, Conclusion, conclusion, unknown_name}
-use Rattle.judge_runs.specs.Wishes.{names_of}
+use Rattle.app_arguments.specs.Conditions.{Conclusion, conclusion, unknown_name}
 use Rattle.app_arguments.specs.Formats.{Format}
 use Rattle.app_arguments.specs.Places.{Place}
-use Rattle.judge_runs.specs.Wishes.{Wish}
+use Rattle.judge_runs.specs.Wishes.{Condition, names_of}
 use Rattle.out_picture.specs.Scopes.{Scope}
 use Rattle.def_judgement.specs.Writes.{Source, Writes, Whole, Partial, IsAnyReport, IsBrokenOff, IsJudged, IsRefused, IsWholeInput, IsTextOfBundle, IsTextOfStreams, IsTooLong, IsFindingTextOf}
 
@@ -18,7 +17,7 @@ use Rattle.def_judgement.specs.Writes.{Source, Writes, Whole, Partial, IsAnyRepo
 -- what is asked of a page: what is wished of predicates, the names of the files of notes on events, and the pattern of
 -- a link to where an event stands in a source
 pub record PageOptions : Type 0 where
-  pub wishes : List Wish
+  pub wishes : List Condition
   pub notes : List (List ℕ)
   pub link : Option (List ℕ)
 
@@ -47,7 +46,7 @@ pub data Request : Type 0 where
       (streams : List (List ℕ)) → Request
   -- to judge recorded runs, each in the folder of this name, with what is asked beside their documents, and to fail on
   -- those that aren't as wished
-  TestRuns : (options : Options) (wishes : List Wish) (runs : List (List ℕ)) → Request
+  TestRuns : (options : Options) (wishes : List Condition) (runs : List (List ℕ)) → Request
   -- to write the first session document of streams of events, each in a file of this name
   InferDocument : (streams : List (List ℕ)) → Request
   -- to show the help

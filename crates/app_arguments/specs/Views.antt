@@ -1,5 +1,5 @@
 -- What the program is asked for, as the definitions name it.
-use Rattle.std.specs.Prelude.{◌≡◌, ◌≢◌, ℕ, Bool, false, true, List, map, option_map, Option, Some, None, MatchOption}
+use Rattle.std.specs.Prelude.{◌≡◌, ◌≢◌, ℕ, Bool, false, true, List, codes, map, option_map, Option, Some, None, MatchOption}
 use Rattle.std.specs.Borrow.{Bor}
 use Rattle.clap.specs.Matches.{found_of}
 use Rattle.clap.specs.Walk.{rows_of}
@@ -8,9 +8,8 @@ use Rattle.clap.specs.declared.parser.matches.ArgMatches.{ArgMatches}
 use Rattle.def_format.specs.Documents.{Options}
 use Rattle.clap.specs.declared.error.kind.ErrorKind.{ErrorKind}
 use Rattle.clap.specs.declared.error.kind.ErrorKind.TheVariants.{DisplayHelp, DisplayVersion, OutOfMemory}
-use Rattle.app_arguments.specs.Arguments.{AsksFor, HasWorkers, IsShownKind, NamesBy, NamesJudgement, NamesService}
+use Rattle.app_arguments.specs.Arguments.{AsksFor, HasWorkers, IsShownKind, NamesBy, NamesJudging, NamesService, NamesSession}
 use Rattle.app_arguments.specs.ConditionViews.{fail_on_view}
-use Rattle.app_arguments.specs.Conditions.{Condition}
 use Rattle.app_arguments.specs.Formats as written
 use Rattle.app_arguments.specs.Places as places
 use Rattle.app_arguments.specs.Statuses as asked
@@ -27,6 +26,7 @@ use Rattle.app_arguments.specs.declared.request.Service.{Service}
 use Rattle.app_arguments.specs.declared.request.SessionNames.{SessionNames}
 use Rattle.app_arguments.specs.declared.table.Row as rows
 use Rattle.judge_runs.specs.Views.{wishes_view}
+use Rattle.judge_runs.specs.Wishes.{Condition}
 use Rattle.out_picture.specs.Scopes.{scope_view}
 use Rattle.out_picture.specs.declared.extent.Extent.{Extent}
 use Rattle.out_picture.specs.declared.extent.Extent.TheVariants.{Around, From, All}
@@ -106,6 +106,12 @@ rows_in matches = rows_of (found_of matches)
 -- the value of which P holds, or that it holds of none
 abbrev pub Finds : {A B : Type 0} → (P : B → Type 0) → (view : A → B) → Option A → Type 0
 Finds {B = B} P view found = MatchOption found ((value : B) → ¬ P value) (λ value. P (view value))
+
+-- what a judgement of a session's files is asked for
+abbrev pub NamesJudgement : List Row → (document : Text) (streams : List Text) → Options → (fail_on : List Condition)
+    → Type 0
+NamesJudgement rows document streams options fail_on =
+    NamesSession rows (codes "STREAM") document streams × NamesJudging rows options fail_on
 
 -- a judgement of files that is named, or that there is none
 abbrev pub FindsJudgement : List Row → Option Judgement → Type 0

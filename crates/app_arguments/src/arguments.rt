@@ -2,19 +2,18 @@
 ghost use Rattle.clap.specs.Simple.{app_of, subcommand_of, subcommand_rows_of};
 ghost use Rattle.clap.specs.Values.{kind_of};
 ghost use Rattle.clap.specs.Walk.{Text, all_of, first_of};
-ghost use Rattle.app_arguments.specs.Arguments.{AreConditions, AreTaken, IsAddressText, IsFormatOf, IsNumberText, IsPlace, IsShownKind, MayNameNumber, NamesAllOptions, NamesExtent, NamesKind, NamesNumber, NamesOptions, NamesPage, NamesScope, NamesService, NamesSession, NamesWorkers, SaysFlag, kind_text, texts_of};
+ghost use Rattle.app_arguments.specs.Arguments.{AreConditions, AreTaken, IsAddressText, IsNumberText, IsPlace, IsShownKind, MayNameNumber, NamesAllOptions, NamesExtent, NamesNumber, NamesOptions, NamesPage, NamesScope, NamesService, NamesSession, NamesWorkers, SaysFlag, kind_text, texts_of, wishes_in};
 ghost use Rattle.app_arguments.specs.ConditionViews.{fail_on_view};
-ghost use Rattle.app_arguments.specs.Formats as written;
+ghost use Rattle.app_arguments.specs.Formats.{format_text};
 ghost use Rattle.app_arguments.specs.Places as places;
 ghost use Rattle.app_arguments.specs.Table.{monitor_app, port_limit, watcher_limit};
 ghost use Rattle.app_arguments.specs.Views.{Finds, FindsJudgement, FindsRequest, FindsService, IsAsked, IsAskedIf, IsErrorOf, extent_by, format_view, names_view, page_view, place_view, rows_in, session_view, text_view};
-ghost use Rattle.app_arguments.specs.Wishes.{named_wishes};
 ghost use Rattle.judge_runs.specs.Views.{wishes_view};
 ghost use Rattle.out_picture.specs.Scopes.{Scope, scope_view};
 ghost use Rattle.out_picture.specs.declared.extent.Extent as extents;
 ghost use Rattle.out_picture.specs.declared.kind.Kind as kinds;
 ghost use Rattle.pd_spec.specs.Views.{options_view};
-ghost use Rattle.std.specs.Prelude.{◌≡◌, ◌≢◌, ◌≤◌, ℕ, IfErr, IfOk, IfSome, List, MatchOption, None, Option, Some, codes, false, map, option_map, true};
+ghost use Rattle.std.specs.Prelude.{◌≡◌, ◌≢◌, ◌≤◌, ℕ, IfErr, IfOk, IfSome, List, MatchOption, None, Option, Some, codes, false, map, option_map, true, unwrap_or};
 
 use super::commands::program_command;
 use super::fail_on::FailOn;
@@ -209,7 +208,8 @@ fn is(word: &[u8], text: &str) -> bool
 
 /// The format of this word, or lines of text if there is no word, unless it is no format's.
 fn format_by(word: Option<&str>) -> Option<Format>
-    ensures { Finds (IsFormatOf (text_view word.entry)) format_view result }
+    ensures { Finds (λ format. unwrap_or (text_view word.entry) (codes "text") ≡ format_text format) format_view
+        result }
 {
     let Some(word) = word else {
         return Some(Format::Plain);
@@ -225,7 +225,8 @@ fn format_by(word: Option<&str>) -> Option<Format>
 
 /// The format of the report, if its option has the word of one or isn't given.
 fn format_of(matches: &ArgMatches<'_>) -> Option<Format>
-    ensures { Finds (IsFormatOf (first_of (codes "FORMAT") (rows_in matches.now))) format_view result }
+    ensures { Finds (λ format. unwrap_or (first_of (codes "FORMAT") (rows_in matches.now)) (codes "text")
+        ≡ format_text format) format_view result }
 {
     format_by(text_of(matches, "FORMAT"))
 }
@@ -265,7 +266,7 @@ fn check_request<'a>(
 
 /// The kind of evidence of this word, or none if there is no word, unless it is no kind's.
 fn kind_by(word: Option<&str>) -> Option<Option<Kind>>
-    ensures { Finds (NamesKind (text_view word.entry)) (λ kind. kind) result }
+    ensures { Finds (λ kind. text_view word.entry ≡ option_map kind_text kind) (λ kind. kind) result }
 {
     let Some(word) = word else {
         return Some(None);
@@ -453,10 +454,7 @@ fn serve_request<'a>(
 
 /// What is wished of predicates by their names.
 fn wished_of<'a>(alloc: Global, matches: &ArgMatches<'a>) -> Result<Vec<Wish<'a>>, AllocError>
-    ensures { IfOk result (λ wishes. wishes_view wishes.items ≡ named_wishes
-        (texts_of (rows_in matches.now) (codes "NEVER"))
-        (texts_of (rows_in matches.now) (codes "ALWAYS"))
-        (texts_of (rows_in matches.now) (codes "SOMETIMES"))) }
+    ensures { IfOk result (λ wishes. wishes_view wishes.items ≡ wishes_in (rows_in matches.now)) }
 {
     let never = texts_of(alloc, matches, "NEVER")?;
     let always = texts_of(alloc, matches, "ALWAYS")?;

@@ -1,6 +1,7 @@
 //! The kinds of answers that a condition can ask for.
-ghost use Rattle.app_arguments.specs.Conditions.{is_of_kind, kind_text};
-ghost use Rattle.app_arguments.specs.Conditions as conditions;
+ghost use Rattle.app_arguments.specs.Conditions.{kind_text};
+ghost use Rattle.judge_runs.specs.Wishes.{is_of_kind};
+ghost use Rattle.judge_runs.specs.Wishes as wishes;
 ghost use Rattle.app_arguments.specs.ConditionViews.{kind_view};
 ghost use Rattle.pd_report.specs.Views.{answer_view};
 ghost use Rattle.std.specs.Prelude.{◌≡◌, MatchOption, false, true};
@@ -32,7 +33,7 @@ fn is(word: &[u8], text: &str) -> bool
 
 /// The kind of this word, if it is one's.
 pub(crate) fn kind_of(word: &[u8]) -> Option<Kind>
-    ensures { MatchOption result ((kind : conditions.Kind) → ¬ (word.now ≡ kind_text kind))
+    ensures { MatchOption result ((kind : wishes.Kind) → ¬ (word.now ≡ kind_text kind))
         (λ kind. word.now ≡ kind_text (kind_view kind)) }
 {
     if is(word, "possibly") {
@@ -74,7 +75,8 @@ impl Kind {
 
 /// Whether an answer is of this kind.
 pub(crate) fn is_of_kind(kind: Kind, answer: &Answer) -> bool
-    ensures { result ≡ is_of_kind (kind_view kind) (answer_view answer.now) }
+    ensures { result ≡ is_of_kind (kind_view kind) (answer_view answer.now).possibly
+        (answer_view answer.now).definitely }
 {
     match kind {
         Kind::Possibly => matches!(answer.possibly, Possibly::Yes(_)),

@@ -1,7 +1,8 @@
 //! What is wished of the predicates of recorded runs, by their names.
 ghost use Rattle.app_arguments.specs.Views.{names_view};
 ghost use Rattle.judge_runs.specs.Views.{wish_kind_view, wishes_view};
-ghost use Rattle.app_arguments.specs.Wishes.{named_wishes, or_none_ever, wishes_for};
+ghost use Rattle.app_arguments.specs.Wishes.{or_none_ever, wishes_for};
+ghost use Rattle.judge_runs.specs.Wishes.{DefinitelyYes, PossiblyNo, PossiblyYes};
 ghost use Rattle.std.specs.Prelude.{◌≡◌, ◌++◌, IfOk, OnOk};
 
 use judge_runs::{Wish, WishKind};
@@ -54,7 +55,8 @@ pub(crate) fn named_wishes<'a>(
     sometimes: &[&'a str],
 ) -> Result<Vec<Wish<'a>>, AllocError>
     ensures { IfOk result (λ wishes. wishes_view wishes.items
-        ≡ named_wishes (names_view never.now) (names_view always.now) (names_view sometimes.now)) }
+        ≡ wishes_for PossiblyNo (names_view never.now) ++ wishes_for DefinitelyYes (names_view always.now)
+        ++ wishes_for PossiblyYes (names_view sometimes.now)) }
 {
     let mut wishes = Vec::new(alloc);
     push_wishes(&mut wishes, WishKind::Never, never)?;

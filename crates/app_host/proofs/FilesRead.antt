@@ -15,7 +15,7 @@ use Rattle.def_judgement.specs.Writes.{IsAnyReport, IsFindingTextOf, IsGivenAs, 
 use Rattle.def_judgement.proofs.Writing.{writes_weaker}
 use Rattle.app_arguments.specs.Statuses.{Ending, Success, Negative, Alarm, NoPredicate, Misuse, Failed, ComesTo, File, MemoryFailure, ReadFailure, WriteFailure, BundleFailure, NetworkFailure, LeavesOf, OfClaim, OfDocument, OfFinding, OfReport, WritesUpTo, sources_of}
 use Rattle.app_arguments.specs.Conditions as conditions
-use Rattle.app_arguments.specs.Conditions.{Condition}
+use Rattle.judge_runs.specs.Wishes.{Condition}
 use Rattle.judge_session.specs.declared.fault.EngineFault.{EngineFault}
 use Rattle.app_host.specs.FileSources.{IsReadOf, Knows, ReadLeaves, SameOutline}
 use Rattle.app_host.proofs.DocumentPrefixes.{both_long, same_report_text, same_text}

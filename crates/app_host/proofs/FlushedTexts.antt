@@ -19,7 +19,8 @@ use Rattle.judge_session.specs.declared.fault.EngineFault.{EngineFault}
 use Rattle.judge_session.specs.declared.fault.EngineFault.TheVariants.{BundleLong, Memory, Read, Write}
 use Rattle.pd_engine.specs.Ends.{IsGiven}
 use Rattle.app_arguments.specs.Conditions as conditions
-use Rattle.app_arguments.specs.Conditions.{Conclusion, Condition, conclusion, is_met}
+use Rattle.judge_runs.specs.Wishes.{Condition}
+use Rattle.app_arguments.specs.Conditions.{Conclusion, conclusion, is_met}
 use Rattle.app_host.specs.Faults.{concluded_ending, ending_view, judged_ending, judgement_ending, report_ending}
 use Rattle.app_host.specs.FileSources.{ReadLeaves}
 use Rattle.app_host.proofs.WrittenSoFar.{appends_kept}

@@ -11,7 +11,7 @@ use Rattle.pd_engine.specs.Ends.{IsGiven}
 use Rattle.pd_report.specs.Views.{report_view}
 use Rattle.pd_report.specs.declared.report.Report as programs
 use Rattle.pd_engine.specs.SessionReports.{IsTrueReportOfInputs}
-use Rattle.app_arguments.specs.Conditions.{Condition}
+use Rattle.judge_runs.specs.Wishes.{Condition}
 use Rattle.app_arguments.specs.Formats.{Format, Plain, Json}
 use Rattle.app_arguments.specs.Statuses.{Ending}
 use Rattle.app_host.specs.FileSources.{Knows, SameOutline}

@@ -9,8 +9,8 @@ use Rattle.def_judgement.specs.OneReport.{DocumentNotRefused, OneDocument}
 use Rattle.pd_spec.specs.Views.{IsFaultOf}
 use Rattle.pd_spec.specs.declared.fault.SpecFault.{SpecFault}
 use Rattle.pd_spec.specs.declared.fault.SpecFault.TheVariants as kinds
-use Rattle.app_arguments.specs.Conditions.{Condition, unknown_name}
-use Rattle.judge_runs.specs.Wishes.{lacks_name, names_of}
+use Rattle.app_arguments.specs.Conditions.{unknown_name}
+use Rattle.judge_runs.specs.Wishes.{Condition, lacks_name, names_of}
 use Rattle.app_arguments.specs.ConditionViews.{name_view}
 use Rattle.app_arguments.specs.Statuses.{Ending, Success, Negative, Alarm, NoPredicate, Misuse, Failed, MemoryFailure, ReadFailure, WriteFailure, BundleFailure, NetworkFailure, HasNamed, OfNamed}
 use Rattle.app_host.specs.Faults.{is_out_of_memory}

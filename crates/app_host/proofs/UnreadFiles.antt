@@ -2,7 +2,7 @@
 use Rattle.std.proofs.Common.{◌≡◌, ◌⊎◌, ℕ, suc, zero, List, [], ◌∷◌, map, Option, None, Some, Ok, Err, refl, inl, inr, true, false, arith}
 use Rattle.std.specs.Prelude.{All, Bool, IsErrAnd, Result}
 use Rattle.std.specs.Io.KnownBytes.{Keeps}
-use Rattle.app_arguments.specs.Conditions.{Condition}
+use Rattle.judge_runs.specs.Wishes.{Condition}
 use Rattle.def_format.specs.Documents.{Inquiry, Options}
 use Rattle.app_arguments.specs.Statuses.{Ending, File, IsLongReport, LeavesOf}
 use Rattle.def_judgement.specs.Writes.{Source}

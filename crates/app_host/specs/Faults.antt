@@ -3,7 +3,8 @@ use Rattle.std.specs.Prelude.{Bool, true, false, List, Option, Some, None, Resul
 use Rattle.def_judgement.specs.Headline.{is_judged}
 use Rattle.app_arguments.specs.Statuses.{Failure, MemoryFailure, ReadFailure, WriteFailure, BundleFailure, Ending, Success, Negative, Alarm, NoPredicate, Failed}
 use Rattle.app_arguments.specs.Conditions as conditions
-use Rattle.app_arguments.specs.Conditions.{Condition, Conclusion, conclusion}
+use Rattle.judge_runs.specs.Wishes.{Condition}
+use Rattle.app_arguments.specs.Conditions.{Conclusion, conclusion}
 use Rattle.pd_report.specs.Views.{report_view}
 use Rattle.pd_report.specs.declared.report.Report.{Report}
 use Rattle.pd_spec.specs.declared.fault.SpecFault.{SpecFault}

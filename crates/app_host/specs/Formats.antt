@@ -4,7 +4,7 @@ use Rattle.def_format.specs.Documents.{Document, DocumentFault, Inquiry, IsDocum
 use Rattle.def_format.specs.Names.{ProcessNames}
 use Rattle.def_format.specs.Reports.{Report}
 use Rattle.def_judgement.specs.Writes.{IsTextOfStreams, Source}
-use Rattle.app_arguments.specs.Conditions.{Condition}
+use Rattle.judge_runs.specs.Wishes.{Condition}
 use Rattle.app_arguments.specs.Formats.{Format, Plain, Json}
 use Rattle.app_arguments.specs.Statuses.{Ending, OfReport}
 use Rattle.out_json.specs.JsonReports.{json_text}

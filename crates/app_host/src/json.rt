@@ -1,5 +1,5 @@
 //! Judges a session, and writes its report as JSON.
-ghost use Rattle.app_arguments.specs.Conditions.{Condition};
+ghost use Rattle.judge_runs.specs.Wishes.{Condition};
 ghost use Rattle.app_arguments.specs.Formats.{Json};
 ghost use Rattle.app_host.specs.Faults.{judgement_ending};
 ghost use Rattle.app_host.specs.FileSources.{ReadLeaves};

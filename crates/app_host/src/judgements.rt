@@ -4,7 +4,7 @@ ghost use Rattle.app_arguments.specs.Views.{format_view, session_view};
 ghost use Rattle.app_host.specs.Faults.{judgement_ending, named_ending};
 ghost use Rattle.app_host.specs.FileSources.{ReadLeaves};
 ghost use Rattle.app_host.specs.Formats.{OfFormat};
-ghost use Rattle.app_arguments.specs.Conditions.{Condition};
+ghost use Rattle.judge_runs.specs.Wishes.{Condition};
 ghost use Rattle.app_arguments.specs.ConditionViews.{fail_on_view};
 ghost use Rattle.judge_session.specs.Inquiries.{inquiry_view};
 ghost use Rattle.pd_spec.specs.Views.{options_view};

@@ -12,7 +12,8 @@ use Rattle.def_judgement.specs.Writes.{Source, Whole, IsAnyReport, IsRefused, Is
 use Rattle.def_judgement.proofs.TextsOwed.{weaker_said}
 use Rattle.def_judgement.proofs.Writing.{writes_weaker}
 use Rattle.app_arguments.specs.Conditions as conditions
-use Rattle.app_arguments.specs.Conditions.{Condition, Conclusion, conclusion}
+use Rattle.judge_runs.specs.Wishes.{Condition}
+use Rattle.app_arguments.specs.Conditions.{Conclusion, conclusion}
 use Rattle.pd_report.specs.Views.{report_view}
 use Rattle.pd_report.specs.declared.report.Report as programs
 use Rattle.pd_report.specs.declared.report.Report.TheVariants.{Judged, Refused}

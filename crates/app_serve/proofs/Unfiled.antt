@@ -5,7 +5,7 @@ use Rattle.app_host.proofs.UnreadFiles.{keeps_same}
 use Rattle.app_serve.specs.Kept.{WritesFiles}
 use Rattle.def_format.specs.Documents.{Inquiry}
 use Rattle.def_judgement.specs.Writes.{Source}
-use Rattle.app_arguments.specs.Conditions.{Condition}
+use Rattle.judge_runs.specs.Wishes.{Condition}
 use Rattle.app_arguments.specs.Statuses.{HoldsDocument, OfConnections}
 use Rattle.app_host.specs.FileSources.{ReadLeaves}
 use Rattle.app_serve.specs.ServiceFaults.{service_ending}

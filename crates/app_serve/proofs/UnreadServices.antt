@@ -1,6 +1,6 @@
 -- What is left if a server's document can't be opened or read, or memory runs out before: nothing.
 use Rattle.std.proofs.Common.{◌≡◌, ℕ, List, Option, Err, refl, inl, inr}
-use Rattle.app_arguments.specs.Conditions.{Condition}
+use Rattle.judge_runs.specs.Wishes.{Condition}
 use Rattle.def_format.specs.Documents.{Inquiry, Options}
 use Rattle.app_arguments.specs.Statuses.{Ending, File, LeavesOf}
 use Rattle.judge_session.specs.declared.fault.EngineFault.{EngineFault}

@@ -1,7 +1,8 @@
 -- A server's faults and results, as ends of a run.
 use Rattle.std.specs.Prelude.{List, Option, Some, None, Result, Ok, Err}
 use Rattle.app_arguments.specs.Statuses.{WriteFailure, NetworkFailure, Ending, Failed, NoPredicate}
-use Rattle.app_arguments.specs.Conditions.{Condition, conclusion}
+use Rattle.judge_runs.specs.Wishes.{Condition}
+use Rattle.app_arguments.specs.Conditions.{conclusion}
 use Rattle.app_host.specs.Faults.{concluded_ending, failure_view}
 use Rattle.app_serve.specs.declared.service_fault.ServiceFault.{ServiceFault}
 use Rattle.app_serve.specs.declared.service_fault.ServiceFault.TheVariants.{Engine, Late, Network, Unkept}

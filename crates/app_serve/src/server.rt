@@ -7,7 +7,7 @@ ghost use Rattle.app_serve.specs.Watched.{IsBeside};
 ghost use Rattle.app_serve.specs.ServiceFaults.{named_service_ending, service_ending};
 ghost use Rattle.app_host.specs.Faults.{is_out_of_memory, judgement_ending};
 ghost use Rattle.app_serve.specs.declared.service_fault.ServiceFault.TheVariants as faults;
-ghost use Rattle.app_arguments.specs.Conditions.{Condition};
+ghost use Rattle.judge_runs.specs.Wishes.{Condition};
 ghost use Rattle.app_arguments.specs.ConditionViews.{fail_on_view};
 ghost use Rattle.def_format.specs.Documents.{IsDocument, inquiry_of};
 ghost use Rattle.def_judgement.specs.Headline.{is_judged};

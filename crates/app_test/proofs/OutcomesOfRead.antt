@@ -9,7 +9,7 @@ use Rattle.def_judgement.specs.Writes.{Source}
 use Rattle.app_arguments.specs.Statuses.{File, MayBeUnread, OfDocument, sources_of}
 use Rattle.judge_runs.specs.Runs.{Outcome, Reported, Unnamed, Unread}
 use Rattle.judge_runs.specs.Views.{outcome_view}
-use Rattle.judge_runs.specs.Wishes.{Wish, first_unnamed, names_of}
+use Rattle.judge_runs.specs.Wishes.{Condition, first_unnamed, names_of}
 use Rattle.judge_runs.specs.declared.outcome.Outcome as outcomes
 use Rattle.judge_session.specs.declared.fault.EngineFault.{EngineFault}
 use Rattle.judge_session.specs.declared.fault.EngineFault.TheVariants.{Read}
@@ -31,7 +31,7 @@ whole_document : (options : Options) (file : File) (read : List ℕ) → IsReadO
 whole_document options file read is =
     of_document options file read (Unit {0}) (HasOutlineOf options read) is (λ document same _. same) tt
 
-pub outcome_of_read : (files : List ℕ → File) (options : Options) (wishes : List Wish) (folder read : List ℕ)
+pub outcome_of_read : (files : List ℕ → File) (options : Options) (wishes : List Condition) (folder read : List ℕ)
     → IsReadOf read (files (document_in folder)).source → (outcome : Outcome)
     → IsReadOutcome files wishes folder (inquiry_of options read) outcome
     → IsOutcome files options wishes folder outcome
@@ -72,7 +72,7 @@ outcome_of_read files options wishes folder read is (Reported report) found =
     })
 
 -- the same of a result
-pub outcomes_of_read : (files : List ℕ → File) (options : Options) (wishes : List Wish) (folder read : List ℕ)
+pub outcomes_of_read : (files : List ℕ → File) (options : Options) (wishes : List Condition) (folder read : List ℕ)
     → IsReadOf read (files (document_in folder)).source → (result : Result outcomes.Outcome EngineFault)
     → IfOk result (λ outcome. IsReadOutcome files wishes folder (inquiry_of options read) (outcome_view outcome))
     → IfOk result (λ outcome. IsOutcome files options wishes folder (outcome_view outcome))
@@ -81,15 +81,15 @@ outcomes_of_read files options wishes folder read is (Ok outcome) found =
 outcomes_of_read files options wishes folder read is (Err fault) found = tt
 
 -- what comes of a run whatever is wished for
-pub of_any_wishes : (files : List ℕ → File) (wishes : List Wish) (folder : List ℕ) (inquiry : Inquiry)
+pub of_any_wishes : (files : List ℕ → File) (wishes : List Condition) (folder : List ℕ) (inquiry : Inquiry)
     (result : Result outcomes.Outcome EngineFault)
-    → IfOk result (λ outcome. (all : List Wish) → IsReadOutcome files all folder inquiry (outcome_view outcome))
+    → IfOk result (λ outcome. (all : List Condition) → IsReadOutcome files all folder inquiry (outcome_view outcome))
     → IfOk result (λ outcome. IsReadOutcome files wishes folder inquiry (outcome_view outcome))
 of_any_wishes files wishes folder inquiry (Ok outcome) found = found wishes
 of_any_wishes files wishes folder inquiry (Err fault) found = tt
 
 -- what comes of a run whose document can't be read
-pub unread_document : (files : List ℕ → File) (options : Options) (wishes : List Wish) (folder path : List ℕ)
+pub unread_document : (files : List ℕ → File) (options : Options) (wishes : List Condition) (folder path : List ℕ)
     (fault : EngineFault) → path ≡ document_in folder
     → (fault ≡ Read → MayBeUnread (files path ∷ []) (files path ∷ []))
     → (result : Result outcomes.Outcome EngineFault)
@@ -104,7 +104,7 @@ unread_document files options wishes folder path fault same unread (Err other) f
 -- ---- the report of an inquiry
 
 -- of the document that is read, and of its streams' files
-pub report_of_document : (files : List ℕ → File) (wishes : List Wish) (folder : List ℕ) (inquiry : Inquiry)
+pub report_of_document : (files : List ℕ → File) (wishes : List Condition) (folder : List ℕ) (inquiry : Inquiry)
     (document : Document) (lefts : List Source) (report : Report) → OneDocument → DocumentNotRefused
     → IsDocument inquiry document → first_unnamed (names_of document.predicates) wishes ≡ None
     → AllZip Knows (sources_of (map files (streams_in folder document.names))) lefts
@@ -126,9 +126,9 @@ report_of_document files wishes folder inquiry document lefts report one not_ref
 }
 
 -- of a document that is refused
-pub report_of_refused : {F : Type 0} (files : List ℕ → File) (wishes : List Wish) (folder : List ℕ) (inquiry : Inquiry)
-    (fault : DocumentFault) (left : F → Source) (streams : List F) (report : Report) → DocumentNotRefused
-    → IsRefusedDocument inquiry fault → streams ≡ [] → IsTrueReportOfInputs inquiry (map left streams) report
+pub report_of_refused : {F : Type 0} (files : List ℕ → File) (wishes : List Condition) (folder : List ℕ)
+    (inquiry : Inquiry) (fault : DocumentFault) (left : F → Source) (streams : List F) (report : Report)
+    → DocumentNotRefused → IsRefusedDocument inquiry fault → streams ≡ [] → IsTrueReportOfInputs inquiry (map left streams) report
     → IsReportOfInquiry files wishes folder inquiry report
 report_of_refused files wishes folder inquiry fault left streams report not_refused refused none given = record {
   inputs = [];

@@ -11,9 +11,9 @@ use Rattle.def_format.specs.Documents.{Options}
 use Rattle.app_arguments.specs.Statuses.{File, WritesUpTo}
 use Rattle.app_host.proofs.FilesRead.{up_to_weaker, zip_on}
 use Rattle.app_host.proofs.WrittenSoFar.{appends_kept, appends_on, up_to}
-use Rattle.judge_runs.specs.Runs.{Run, line_of, lines_text, summary_text, test_text}
-use Rattle.judge_runs.specs.Tallies.{Stands}
-use Rattle.judge_runs.specs.Wishes.{Wish}
+use Rattle.judge_runs.specs.Runs.{Run, line_of, test_text}
+use Rattle.judge_runs.specs.Tallies.{Stands, lines_text, summary_text}
+use Rattle.judge_runs.specs.Wishes.{Condition}
 use Rattle.judge_runs.specs.declared.conclusion.Conclusion.{Conclusion}
 use Rattle.judge_runs.specs.declared.conclusion.Conclusion.TheVariants.{AllPass, SomeFails, SomeNotJudged}
 use Rattle.judge_runs.specs.declared.tally.Tally.{Tally}
@@ -53,18 +53,18 @@ take_next f xs i d lt =
 -- ---- one more run
 
 -- the lines of runs and of one more
-lines_on : (wishes : List Wish) (runs : List Run) (run : Run)
+lines_on : (wishes : List Condition) (runs : List Run) (run : Run)
     → lines_text wishes (runs ++ run ∷ []) ≡ lines_text wishes runs ++ line_of wishes run
 lines_on wishes runs run =
     flat_map-append (line_of wishes) runs (run ∷ [])
     ∙ ap (λ l. lines_text wishes runs ++ l) (append-nil (line_of wishes run))
 
-pub none_tested : (files : List ℕ → File) (options : Options) (wishes : List Wish) (tally : Tally)
+pub none_tested : (files : List ℕ → File) (options : Options) (wishes : List Condition) (tally : Tally)
     (old : Option (List ℕ)) → Stands wishes [] tally → AreTested files options wishes [] tally old old
 none_tested files options wishes tally old stands =
     record { runs = []; are_runs = tt; stands = stands; written = Appends-nil old }
 
-module _ (files : List ℕ → File) (options : Options) (wishes : List Wish) (folders : List (List ℕ)) where
+module _ (files : List ℕ → File) (options : Options) (wishes : List Condition) (folders : List (List ℕ)) where
   pub tested_on : (folder : List ℕ) (before after : Tally) (old middle new : Option (List ℕ))
       → AreTested files options wishes folders before old middle
       → IsTested files options wishes folder before after middle new
@@ -79,7 +79,7 @@ module _ (files : List ℕ → File) (options : Options) (wishes : List Wish) (f
 
 -- ---- the line of a run
 
-module _ (files : List ℕ → File) (options : Options) (wishes : List Wish) (run : Run) (text line : List ℕ)
+module _ (files : List ℕ → File) (options : Options) (wishes : List Condition) (run : Run) (text line : List ℕ)
     (old new : Option (List ℕ)) (outcome : IsOutcome files options wishes run.folder run.outcome)
     (same : text ≡ line) (is_line : line ≡ line_of wishes run) where
   pub line_written : (before after : Tally)
@@ -109,7 +109,7 @@ module _ (files : List ℕ → File) (options : Options) (wishes : List Wish) (r
 -- ---- the summary
 
 -- a fault before the summary is written
-pub nothing_concluded : (wishes : List Wish) (runs : List Run) (old : Option (List ℕ))
+pub nothing_concluded : (wishes : List Condition) (runs : List Run) (old : Option (List ℕ))
     (result : Result Conclusion EngineFault) → IsErr result → IsConcluded wishes runs result old old
 nothing_concluded wishes runs old (Ok end) is = absurd (cc)
 nothing_concluded wishes runs old (Err fault) is = (0, Appends-nil old)
@@ -117,12 +117,12 @@ nothing_concluded wishes runs old (Err fault) is = (0, Appends-nil old)
 -- ---- a test that ends early
 
 -- a prefix of the text of a test of the runs in these folders, or all of it
-abbrev pub LeavesPart : (files : List ℕ → File) (options : Options) (wishes : List Wish) (folders : List (List ℕ))
+abbrev pub LeavesPart : (files : List ℕ → File) (options : Options) (wishes : List Condition) (folders : List (List ℕ))
     → (old new : Option (List ℕ)) → Type 0
 LeavesPart files options wishes folders old new =
     WritesUpTo (IsTestText files options wishes (λ _. ⊤) folders) old new
 
-module _ (files : List ℕ → File) (options : Options) (wishes : List Wish) (folders : List (List ℕ))
+module _ (files : List ℕ → File) (options : Options) (wishes : List Condition) (folders : List (List ℕ))
     (old new : Option (List ℕ)) where
   cut_text : (runs : List Run) (count : ℕ) → AllZip (IsRunIn files options wishes) folders runs
       → Appends old new (take count (test_text wishes runs)) → LeavesPart files options wishes folders old new
@@ -193,7 +193,8 @@ module _ (files : List ℕ → File) (options : Options) (wishes : List Wish) (f
   -- what is left once all runs are tested
   pub ended : (tally : Tally) (middle : Option (List ℕ)) → AreTested files options wishes folders tally old middle
       → (result : Result Conclusion EngineFault)
-      → ((asked : List Wish) (runs : List Run) → Stands asked runs tally → IsConcluded asked runs result middle new)
+      → ((asked : List Condition) (runs : List Run) → Stands asked runs tally
+      → IsConcluded asked runs result middle new)
       → IfErr result EndsTest → TestLeaves files options wishes folders (test_ending result) old new
   ended tally middle all (Ok end) go ends = concluded tally middle end all (go wishes all.runs all.stands)
   ended tally middle all (Err fault) go ends =
@@ -203,8 +204,8 @@ module _ (files : List ℕ → File) (options : Options) (wishes : List Wish) (f
       (cut_summary tally middle fault all (go wishes all.runs all.stands)))
 
 -- in the line of the next run
-module _ (files : List ℕ → File) (options : Options) (wishes : List Wish) (folders : List (List ℕ)) (folder : List ℕ)
-    (tally : Tally) (old middle new : Option (List ℕ)) where
+module _ (files : List ℕ → File) (options : Options) (wishes : List Condition) (folders : List (List ℕ))
+    (folder : List ℕ) (tally : Tally) (old middle new : Option (List ℕ)) where
   cut_line : AreTested files options wishes folders tally old middle
       → IsCutLine files options wishes folder middle new
       → LeavesPart files options wishes (folders ++ folder ∷ []) old new

@@ -7,7 +7,7 @@ use Rattle.def_format.specs.Reports.{Report}
 use Rattle.def_judgement.specs.Writes.{Source}
 use Rattle.app_arguments.specs.Statuses.{File, MayBeUnread, sources_of}
 use Rattle.judge_runs.specs.Runs.{Outcome, Reported, Unnamed, Unread}
-use Rattle.judge_runs.specs.Wishes.{Wish, first_unnamed, names_of}
+use Rattle.judge_runs.specs.Wishes.{Condition, first_unnamed, names_of}
 use Rattle.pd_engine.specs.SessionReports.{IsTrueReportOfInputs}
 use Rattle.app_test.specs.Tests.{HasUnreadStream, LacksWished, stream_in, streams_in}
 use Rattle.app_test.specs.declared.unopened.Unopened.{Unopened}
@@ -26,7 +26,7 @@ IsUnopened files folder names unopened.Memory = ⊤
 
 -- The report of an inquiry, and of the streams in a folder of its document's processes, which is true. The document has
 -- each predicate that is wished for.
-pub record IsReportOfInquiry (files : List ℕ → File) (wishes : List Wish) (folder : List ℕ) (inquiry : Inquiry)
+pub record IsReportOfInquiry (files : List ℕ → File) (wishes : List Condition) (folder : List ℕ) (inquiry : Inquiry)
     (report : Report) : Type 0 where
   pub inputs : List Source
   pub of_document : (document : Document) → IsDocument inquiry document
@@ -40,7 +40,8 @@ abbrev pub OfInquiry : Inquiry → (P : Document → Type 0) → Type 0
 OfInquiry inquiry P = (document : Document) × IsDocument inquiry document × P document
 
 -- what comes of a run whose document is that of an inquiry
-abbrev pub IsReadOutcome : (files : List ℕ → File) (wishes : List Wish) (folder : List ℕ) → Inquiry → Outcome → Type 0
+abbrev pub IsReadOutcome : (files : List ℕ → File) (wishes : List Condition) (folder : List ℕ) → Inquiry → Outcome
+    → Type 0
 IsReadOutcome files wishes folder inquiry (Unread file) = OfInquiry inquiry (HasUnreadStream files wishes folder file)
 IsReadOutcome files wishes folder inquiry (Unnamed name) = OfInquiry inquiry (LacksWished wishes name)
 IsReadOutcome files wishes folder inquiry (Reported report) = IsReportOfInquiry files wishes folder inquiry report

@@ -8,7 +8,7 @@ use Rattle.def_judgement.specs.Writes.{Source, Whole, Writes}
 use Rattle.app_arguments.specs.Statuses.{Alarm, Ending, Failed, File, IsWholeDocument, MayBeUnread, MemoryFailure, Negative, Success, WriteFailure, WritesUpTo, sources_of}
 use Rattle.judge_runs.specs.Runs.{AllPass, Conclusion, Outcome, Reported, Run, SomeFails, SomeNotJudged, Unnamed, Unread, conclusion, test_text}
 use Rattle.judge_runs.specs.Views.{conclusion_view}
-use Rattle.judge_runs.specs.Wishes.{Wish, first_unnamed, names_of}
+use Rattle.judge_runs.specs.Wishes.{Condition, first_unnamed, names_of}
 use Rattle.judge_runs.specs.declared.conclusion.Conclusion as conclusions
 use Rattle.pd_engine.specs.SessionReports.{IsTrueReportOfInputs}
 use Rattle.judge_session.specs.declared.fault.EngineFault.{EngineFault}
@@ -34,7 +34,7 @@ streams_in folder names = map (stream_in folder) names
 -- The report of the document in a folder, with what is asked beside it, and of the streams there of its processes, in
 -- the document's order; it has each predicate that is wished for. The report is true. Of a document that is refused no
 -- stream is read.
-pub record IsReportOfRun (files : List ℕ → File) (options : Options) (wishes : List Wish) (folder : List ℕ)
+pub record IsReportOfRun (files : List ℕ → File) (options : Options) (wishes : List Condition) (folder : List ℕ)
     (report : Report) : Type 0 where
   pub bytes : List ℕ
   pub whole : IsWholeDocument (files (document_in folder)).source bytes
@@ -55,12 +55,13 @@ pub record OfRunDocument (files : List ℕ → File) (options : Options) (folder
   pub holds : P document
 
 -- the first wish for a predicate that a document lacks is for that of this name
-abbrev pub LacksWished : List Wish → (name : List ℕ) → Document → Type 0
+abbrev pub LacksWished : List Condition → (name : List ℕ) → Document → Type 0
 LacksWished wishes name document = first_unnamed (names_of document.predicates) wishes ≡ Some name
 
 -- The document has each predicate that is wished for, and a process of it has its stream in the file of this name,
 -- which may be such that it can't be opened.
-abbrev pub HasUnreadStream : (files : List ℕ → File) (wishes : List Wish) (folder file : List ℕ) → Document → Type 0
+abbrev pub HasUnreadStream : (files : List ℕ → File) (wishes : List Condition) (folder file : List ℕ) → Document
+    → Type 0
 HasUnreadStream files wishes folder file document =
     (place : ℕ) × (process : ProcessNames) × (slice_get document.names place ≡ Some process)
     × (file ≡ stream_in folder process) × MayBeUnread (files file ∷ []) []
@@ -68,7 +69,7 @@ HasUnreadStream files wishes folder file document =
 
 -- First the document is read, then each predicate that is wished for is looked up in it, then the streams are opened,
 -- in its order, and then the run is judged.
-pub data IsOutcome (files : List ℕ → File) (options : Options) (wishes : List Wish) (folder : List ℕ) :
+pub data IsOutcome (files : List ℕ → File) (options : Options) (wishes : List Condition) (folder : List ℕ) :
     Outcome → Type 0 where
   of_document_unread : MayBeUnread (files (document_in folder) ∷ []) (files (document_in folder) ∷ [])
       → IsOutcome files options wishes folder (Unread (document_in folder))
@@ -80,13 +81,13 @@ pub data IsOutcome (files : List ℕ → File) (options : Options) (wishes : Lis
       → IsOutcome files options wishes folder (Reported report)
 
 -- the run is that in this folder, with what comes of it
-abbrev pub IsRunIn : (files : List ℕ → File) (options : Options) (wishes : List Wish) (folder : List ℕ) → Run → Type 0
+abbrev pub IsRunIn : (files : List ℕ → File) (options : Options) (wishes : List Condition) (folder : List ℕ) → Run → Type 0
 IsRunIn files options wishes folder run = (run.folder ≡ folder) × IsOutcome files options wishes folder run.outcome
 
 -- ---- the text
 
 -- The text of a test of the runs in these folders. Of the runs this is said.
-pub record IsTestText (files : List ℕ → File) (options : Options) (wishes : List Wish) (IsSaid : List Run → Type 0)
+pub record IsTestText (files : List ℕ → File) (options : Options) (wishes : List Condition) (IsSaid : List Run → Type 0)
     (folders : List (List ℕ)) (text : List ℕ) : Type 0 where
   pub runs : List Run
   pub are_runs : AllZip (IsRunIn files options wishes) folders runs
@@ -95,7 +96,7 @@ pub record IsTestText (files : List ℕ → File) (options : Options) (wishes : 
 
 -- What a test leaves. All runs pass, or one fails, or one isn't judged: the text of the test of all runs. The output
 -- fails, or memory runs out: the text of a test of the first of them, or a prefix of it.
-abbrev pub TestLeaves : (files : List ℕ → File) (options : Options) (wishes : List Wish) (folders : List (List ℕ))
+abbrev pub TestLeaves : (files : List ℕ → File) (options : Options) (wishes : List Condition) (folders : List (List ℕ))
     → Ending → (old new : Option (List ℕ)) → Type 0
 TestLeaves files options wishes folders Success old new =
     Writes (IsTestText files options wishes (λ runs. conclusion wishes runs ≡ AllPass) folders) Whole old new

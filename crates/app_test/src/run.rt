@@ -52,7 +52,7 @@ fn refused_outcome<Y: System, G: Gate + Sync>(
     gate: &G,
 ) -> Result<Outcome, EngineFault>
     requires { (fault : DocumentFault) × IsRefusedDocument (inquiry_view inquiry) fault }
-    ensures outcome { IfOk result (λ outcome. (wishes : List wished.Wish) → IsReadOutcome
+    ensures outcome { IfOk result (λ outcome. (wishes : List wished.Condition) → IsReadOutcome
         (Y.Files.file_of world.now.files.now) wishes folder.now (inquiry_view inquiry.entry) (outcome_view outcome)) }
     ensures err { IsOkUnless result EngineFault.Memory }
 {
@@ -83,7 +83,7 @@ fn streams_outcome<Y: System, G: Gate + Sync>(
     gate: &G,
 ) -> Result<Outcome, EngineFault>
     requires { IsDocument (inquiry_view inquiry) (document_view spec.now) }
-    ensures outcome { IfOk result (λ outcome. (wishes : List wished.Wish)
+    ensures outcome { IfOk result (λ outcome. (wishes : List wished.Condition)
         → first_unnamed (names_of (document_view spec.now).predicates) wishes ≡ None → IsReadOutcome
         (Y.Files.file_of world.now.files.now) wishes folder.now (inquiry_view inquiry.entry) (outcome_view outcome)) }
     ensures err { IsOkUnless result EngineFault.Memory }

@@ -55,7 +55,7 @@ fn conclude<O: Write>(
     tally: &Tally,
     output: &mut O,
 ) -> Result<Conclusion, EngineFault>
-    ensures end { (wishes : List wished.Wish) (runs : List Run) → Stands wishes runs tally.now
+    ensures end { (wishes : List wished.Condition) (runs : List Run) → Stands wishes runs tally.now
         → IsConcluded wishes runs result (O.contents output.old) (O.contents output.new) }
     ensures err { IfErr result EndsTest }
 {

@@ -14,21 +14,21 @@ use Rattle.judge_runs.specs.declared.conclusion.Conclusion.{Conclusion}
 use Rattle.judge_runs.specs.declared.conclusion.Conclusion.TheVariants as conclusions
 use Rattle.pd_report.specs.Views.{report_view}
 
-abbrev pub wish_kind_view : WishKind → wishes.WishKind
-wish_kind_view kinds.Never = wishes.Never
-wish_kind_view kinds.Always = wishes.Always
-wish_kind_view kinds.Sometimes = wishes.Sometimes
+abbrev pub wish_kind_view : WishKind → wishes.Kind
+wish_kind_view kinds.Never = wishes.PossiblyNo
+wish_kind_view kinds.Always = wishes.DefinitelyYes
+wish_kind_view kinds.Sometimes = wishes.PossiblyYes
 
 abbrev pub name_view : Option (Bor (List ℕ)) → Option (List ℕ)
 name_view name = option_map (λ (bytes : Bor (List ℕ)). bytes.now) name
 
-abbrev pub wish_view : Wish → wishes.Wish
+abbrev pub wish_view : Wish → wishes.Condition
 wish_view wish = record {
   name = name_view wish.name;
   kind = wish_kind_view wish.kind;
 }
 
-abbrev pub wishes_view : List Wish → List wishes.Wish
+abbrev pub wishes_view : List Wish → List wishes.Condition
 wishes_view found = map wish_view found
 
 abbrev pub outcome_view : Outcome → runs.Outcome

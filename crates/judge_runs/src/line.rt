@@ -1,6 +1,7 @@
 //! The line that says what came of a run.
-ghost use Rattle.judge_runs.specs.Runs.{judged_words, listed};
+ghost use Rattle.judge_runs.specs.Runs.{judged_words};
 ghost use Rattle.judge_runs.specs.Runs as runs;
+ghost use Rattle.judge_runs.specs.Tallies.{listed};
 ghost use Rattle.judge_runs.specs.Views.{outcome_view, verdict_view, wishes_view};
 ghost use Rattle.pd_report.specs.Views.{report_view};
 ghost use Rattle.def_format.specs.Reports.{report_text};

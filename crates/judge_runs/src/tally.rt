@@ -1,5 +1,6 @@
 //! The verdicts of runs, and the text at the end.
 ghost use Rattle.judge_runs.specs.Runs as runs;
+ghost use Rattle.judge_runs.specs.Tallies.{counts_line, field_text, indented};
 ghost use Rattle.judge_runs.specs.Views.{conclusion_view, verdict_view};
 ghost use Rattle.std.specs.Prelude.{◌≡◌, ◌++◌, ℕ, Bool, List, OnOk, filter, flat_map, length, map};
 
@@ -26,9 +27,9 @@ struct Counts {
 /// How many runs there are, and how many of them pass, fail and aren't judged, by their verdicts.
 fn counts_of(verdicts: &[Verdict]) -> Counts
     ensures all { result.all ≡ length (map verdict_view verdicts.now) }
-    ensures pass { result.pass ≡ runs.count_of runs.is_pass (map verdict_view verdicts.now) }
-    ensures fail { result.fail ≡ runs.count_of runs.is_fail (map verdict_view verdicts.now) }
-    ensures not_judged { result.not_judged ≡ runs.count_of runs.is_not_judged (map verdict_view verdicts.now) }
+    ensures pass { result.pass ≡ runs.count_of runs.Pass (map verdict_view verdicts.now) }
+    ensures fail { result.fail ≡ runs.count_of runs.Fail (map verdict_view verdicts.now) }
+    ensures not_judged { result.not_judged ≡ runs.count_of runs.NotJudged (map verdict_view verdicts.now) }
 {
     let mut counts = Counts {
         all: 0,
@@ -48,9 +49,9 @@ fn counts_of(verdicts: &[Verdict]) -> Counts
 }
 
 /// Appends a word and a number.
-#[tactic(auto, unfolding(crate::specs::Runs::field_text))]
+#[tactic(auto, unfolding(crate::specs::Tallies::field_text))]
 fn push_field(out: &mut Vec<u8>, word: &str, number: u64) -> Result<(), AllocError>
-    ensures { OnOk result (out.new.items ≡ out.old.items ++ runs.field_text word.now number) }
+    ensures { OnOk result (out.new.items ≡ out.old.items ++ field_text word.now number) }
 {
     push_bytes(out, word.as_bytes())?;
     push_number(out, number)
@@ -59,7 +60,7 @@ fn push_field(out: &mut Vec<u8>, word: &str, number: u64) -> Result<(), AllocErr
 /// Appends the line that counts runs.
 fn push_counts(out: &mut Vec<u8>, counts: Counts) -> Result<(), AllocError>
     ensures { OnOk result (out.new.items
-        ≡ out.old.items ++ runs.counts_line counts.all counts.pass counts.fail counts.not_judged) }
+        ≡ out.old.items ++ counts_line counts.all counts.pass counts.fail counts.not_judged) }
 {
     push_field(out, "runs: ", counts.all)?;
     push_field(out, ", pass: ", counts.pass)?;
@@ -71,7 +72,7 @@ fn push_counts(out: &mut Vec<u8>, counts: Counts) -> Result<(), AllocError>
 
 /// Appends lines once more, each after two blanks.
 fn push_lines(out: &mut Vec<u8>, lines: &[Vec<u8>]) -> Result<(), AllocError>
-    ensures { OnOk result (out.new.items ≡ out.old.items ++ runs.indented (map (λ line. line.items) lines.now)) }
+    ensures { OnOk result (out.new.items ≡ out.old.items ++ indented (map (λ line. line.items) lines.now)) }
 {
     for line in lines {
         push_bytes(out, b"  ")?;
@@ -89,14 +90,14 @@ pub struct Tally {
 
 impl Tally {
     ghost use Rattle.judge_runs.specs.Runs as runs;
-    ghost use Rattle.judge_runs.specs.Tallies.{Stands};
+    ghost use Rattle.judge_runs.specs.Tallies.{Stands, summary_text};
     ghost use Rattle.judge_runs.specs.Views.{conclusion_view, outcome_view, wishes_view};
-    ghost use Rattle.judge_runs.specs.Wishes.{Wish as Wished};
+    ghost use Rattle.judge_runs.specs.Wishes.{Condition};
     ghost use Rattle.std.specs.Prelude.{◌≡◌, ◌++◌, ◌∷◌, [], IfOk, List, OnOk};
 
     /// Of no run.
     pub fn new(alloc: Global) -> Tally
-        ensures { (wishes : List Wished) → Stands wishes [] result }
+        ensures { (wishes : List Condition) → Stands wishes [] result }
     {
         Tally {
             verdicts: Vec::new(alloc),
@@ -136,8 +137,8 @@ impl Tally {
     /// # Errors
     /// Out of memory.
     pub fn summary(&self, alloc: Global) -> Result<Vec<u8>, AllocError>
-        ensures { IfOk result (λ text. (wishes : List Wished) (all : List runs.Run) → Stands wishes all self.now
-            → text.items ≡ runs.summary_text wishes all) }
+        ensures { IfOk result (λ text. (wishes : List Condition) (all : List runs.Run) → Stands wishes all self.now
+            → text.items ≡ summary_text wishes all) }
     {
         let mut text = Vec::new(alloc);
         push_counts(&mut text, counts_of(&self.verdicts))?;
@@ -147,7 +148,7 @@ impl Tally {
 
     /// What the runs come to together.
     pub fn conclusion(&self) -> Conclusion
-        ensures { (wishes : List Wished) (all : List runs.Run) → Stands wishes all self.now
+        ensures { (wishes : List Condition) (all : List runs.Run) → Stands wishes all self.now
             → conclusion_view result ≡ runs.conclusion wishes all }
     {
         let counts = counts_of(&self.verdicts);

@@ -18,7 +18,7 @@ impl Verdict {
 
     /// Whether it is that all is as wished.
     pub fn is_pass(self) -> bool
-        ensures { result ≡ runs.is_pass (verdict_view self) }
+        ensures { result ≡ runs.is_same runs.Pass (verdict_view self) }
     {
         match self {
             Verdict::Pass => true,
@@ -28,7 +28,7 @@ impl Verdict {
 
     /// Whether it is that an answer isn't as wished.
     pub fn is_fail(self) -> bool
-        ensures { result ≡ runs.is_fail (verdict_view self) }
+        ensures { result ≡ runs.is_same runs.Fail (verdict_view self) }
     {
         match self {
             Verdict::Fail => true,
@@ -38,7 +38,7 @@ impl Verdict {
 
     /// Whether it is that there are no answers.
     pub fn is_not_judged(self) -> bool
-        ensures { result ≡ runs.is_not_judged (verdict_view self) }
+        ensures { result ≡ runs.is_same runs.NotJudged (verdict_view self) }
     {
         match self {
             Verdict::NotJudged => true,

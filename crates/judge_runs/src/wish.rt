@@ -1,11 +1,11 @@
 //! What is wished of predicates, and which answers are not as wished.
 ghost use Rattle.judge_runs.specs.Views.{name_view, wish_kind_view, wish_view, wishes_view};
-ghost use Rattle.judge_runs.specs.Wishes.{answer_words, broken, broken_text, definitely_word, first_unnamed, is_definitely_yes, is_possibly_no, is_possibly_yes, names_of, possibly_word};
+ghost use Rattle.judge_runs.specs.Wishes.{answer_words, broken, broken_text, first_unnamed, is_of_kind, names_of};
 ghost use Rattle.def_format.specs.Lists.{is_one_of};
-ghost use Rattle.def_format.specs.Reports.{spaced};
+ghost use Rattle.def_format.specs.Reports.{definitely_words, possibly_words, spaced};
 ghost use Rattle.pd_report.specs.Views.{answer_view, definitely_view, possibly_view};
 ghost use Rattle.pd_spec.specs.Named.{named_view};
-ghost use Rattle.std.specs.Prelude.{◌≡◌, ◌++◌, IfOk, MatchOption, OnOk, [], map, string_bytes};
+ghost use Rattle.std.specs.Prelude.{◌≡◌, ◌++◌, ◌∷◌, IfOk, MatchOption, OnOk, [], map, string_bytes, take};
 ghost use Rattle.std.specs.Str.{bytes_eq};
 
 use pd_report::{Answer, Definitely, Possibly, push_bytes};
@@ -34,7 +34,7 @@ pub struct Wish<'a> {
 
 /// The word of an answer to Possibly.
 fn possibly_word(possibly: &Possibly) -> &'static str
-    ensures { result.now ≡ possibly_word (possibly_view possibly.now) }
+    ensures { take 1 (possibly_words (possibly_view possibly.now)) ≡ result.now ∷ [] }
 {
     match possibly {
         Possibly::Yes(_) => "yes",
@@ -45,42 +45,12 @@ fn possibly_word(possibly: &Possibly) -> &'static str
 
 /// The word of an answer to Definitely.
 fn definitely_word(definitely: &Definitely) -> &'static str
-    ensures { result.now ≡ definitely_word (definitely_view definitely.now) }
+    ensures { take 1 (definitely_words (definitely_view definitely.now)) ≡ result.now ∷ [] }
 {
     match definitely {
         Definitely::Yes(_) => "yes",
         Definitely::No(_) => "no",
         Definitely::Unknown(_) => "unknown",
-    }
-}
-
-/// Whether the answer to Possibly is yes.
-fn is_possibly_yes(possibly: &Possibly) -> bool
-    ensures { result ≡ is_possibly_yes (possibly_view possibly.now) }
-{
-    match possibly {
-        Possibly::Yes(_) => true,
-        Possibly::No | Possibly::Unknown(_) => false,
-    }
-}
-
-/// Whether it is no.
-fn is_possibly_no(possibly: &Possibly) -> bool
-    ensures { result ≡ is_possibly_no (possibly_view possibly.now) }
-{
-    match possibly {
-        Possibly::No => true,
-        Possibly::Yes(_) | Possibly::Unknown(_) => false,
-    }
-}
-
-/// Whether the answer to Definitely is yes.
-fn is_definitely_yes(definitely: &Definitely) -> bool
-    ensures { result ≡ is_definitely_yes (definitely_view definitely.now) }
-{
-    match definitely {
-        Definitely::Yes(_) => true,
-        Definitely::No(_) | Definitely::Unknown(_) => false,
     }
 }
 
@@ -102,19 +72,20 @@ pub fn has_name(predicates: &[NamedPred], name: &[u8]) -> bool
 
 impl WishKind {
     ghost use Rattle.judge_runs.specs.Views.{wish_kind_view};
-    ghost use Rattle.judge_runs.specs.Wishes.{answer_words, broken_text, is_granted};
+    ghost use Rattle.judge_runs.specs.Wishes.{answer_words, broken_text, is_of_kind};
     ghost use Rattle.def_format.specs.Reports.{spaced};
     ghost use Rattle.pd_report.specs.Views.{answer_view};
     ghost use Rattle.std.specs.Prelude.{◌≡◌, ◌++◌, IfOk, OnOk};
 
     /// Whether an answer is as wished: one that is unknown never is.
     fn is_granted(self, answer: &Answer) -> bool
-        ensures { result ≡ is_granted (wish_kind_view self) (answer_view answer.now) }
+        ensures { result ≡ is_of_kind (wish_kind_view self) (answer_view answer.now).possibly
+            (answer_view answer.now).definitely }
     {
         match self {
-            WishKind::Never => is_possibly_no(&answer.possibly),
-            WishKind::Always => is_definitely_yes(&answer.definitely),
-            WishKind::Sometimes => is_possibly_yes(&answer.possibly),
+            WishKind::Never => matches!(answer.possibly, Possibly::No),
+            WishKind::Always => matches!(answer.definitely, Definitely::Yes(_)),
+            WishKind::Sometimes => matches!(answer.possibly, Possibly::Yes(_)),
         }
     }
 

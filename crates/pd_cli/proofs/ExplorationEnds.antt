@@ -3,7 +3,7 @@ use Rattle.std.proofs.Common.{List, ℕ, Option, inl, inr}
 use Rattle.std.specs.List.{AllZip}
 use Rattle.def_format.specs.Documents.{Inquiry, Options, inquiry_of}
 use Rattle.def_format.specs.Reports.{Report}
-use Rattle.app_arguments.specs.Conditions.{Condition}
+use Rattle.judge_runs.specs.Wishes.{Condition}
 use Rattle.app_arguments.specs.Statuses.{Ending, OfReport, PageOptions}
 use Rattle.def_judgement.specs.Writes.{Source}
 use Rattle.judge_explore.specs.Explored.{IsOtherRefusal, IsOwed, IsPageOfInputs, IsRefusalPage}

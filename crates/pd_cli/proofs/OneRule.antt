@@ -13,7 +13,7 @@ use Rattle.def_judgement.proofs.CleanFindings.{clean_is_clean_lem}
 use Rattle.def_judgement.proofs.TextsOwed.{weaker_said_of_bundle, weaker_said_of_streams}
 use Rattle.def_judgement.proofs.Writing.{writes_weaker}
 use Rattle.app_arguments.specs.Arguments.{AsksFor}
-use Rattle.app_arguments.specs.Conditions.{Condition, is_met, unknown_name}
+use Rattle.app_arguments.specs.Conditions.{is_met, unknown_name}
 use Rattle.app_arguments.specs.Conditions as conditions
 use Rattle.app_arguments.specs.Formats.{Format, Plain, Json}
 use Rattle.app_arguments.specs.Places.{Place}
@@ -25,9 +25,9 @@ use Rattle.app_host.specs.Formats.{IsFormatted, OfFormat}
 use Rattle.app_serve.specs.Kept.{WritesFiles}
 use Rattle.app_test.specs.Tests.{IsTestText, TestLeaves}
 use Rattle.judge_explore.proofs.Written.{owed_weaker}
-use Rattle.judge_runs.specs.Runs.{Run, conclusion_by, count_of, is_fail, is_not_judged, verdict_of_run}
+use Rattle.judge_runs.specs.Runs.{Fail, NotJudged, Run, conclusion_by, count_of, verdict_of_run}
 use Rattle.judge_runs.specs.Runs as judged
-use Rattle.judge_runs.specs.Wishes.{Wish, lacks_name, names_of}
+use Rattle.judge_runs.specs.Wishes.{Condition, lacks_name, names_of}
 use Rattle.clap.specs.Words.{Text}
 use Rattle.pd_cli.specs.Explorations.{ExplorationLeaves, IsNotesFile, IsOwedWith, OfPage, all_named}
 use Rattle.pd_cli.specs.RunCases.{Leaves as LeavesCase, RunsAsAsked}
@@ -191,8 +191,8 @@ lacks_named : (fail_on : List Condition) (inquiry : Inquiry) → LacksNamed fail
 lacks_named fail_on inquiry (document, is, unknown) has =
     absurd (unknown (none_unknown (names_of document.predicates) fail_on (has document is)))
 
-names_of_all : (fail_on : List Condition) (wishes : List Wish)
-    → names_in (all_named fail_on wishes) ≡ names_in fail_on ++ map (λ (wish : Wish). wish.name) wishes
+names_of_all : (fail_on : List Condition) (wishes : List Condition)
+    → names_in (all_named fail_on wishes) ≡ names_in fail_on ++ names_in wishes
 names_of_all [] [] = refl
 names_of_all [] (wish ∷ wishes) = ap (λ names. wish.name ∷ names) (names_of_all [] wishes)
 names_of_all (condition ∷ fail_on) wishes = ap (λ names. condition.name ∷ names) (names_of_all fail_on wishes)
@@ -369,7 +369,7 @@ page_left : (files : List ℕ → File) (options : Options) (fail_on : List Cond
     ⊎ OfSession options (files document)
     (MayBeUnread (files document ∷ map files streams) (files document ∷ [])
     ⊎ ¬ All IsNotesFile (map files page.notes))
-    (names_in fail_on ++ map (λ (wish : Wish). wish.name) page.wishes)
+    (names_in fail_on ++ names_in page.wishes)
     (λ inquiry. LeavesReport (IsOwedWith (bytes_in files) page streams inquiry (sources_of (map files streams)))
     fail_on) ending old new
 page_left files options fail_on page document streams old new ending h =
@@ -406,7 +406,7 @@ some_not_judged true not_judged h = cc
 some_not_judged false true h = refl
 some_not_judged false false h = cc
 
-module _ (files : List ℕ → File) (options : Options) (wishes : List Wish) (folders : List (List ℕ)) where
+module _ (files : List ℕ → File) (options : Options) (wishes : List Condition) (folders : List (List ℕ)) where
   test_follows : (P Q : List Run → Type 0) (text : List ℕ) → ((runs : List Run) → P runs → Q runs)
       → IsTestText files options wishes P folders text → IsTestText files options wishes Q folders text
   test_follows P Q text go h = record {
@@ -426,14 +426,14 @@ module _ (files : List ℕ → File) (options : Options) (wishes : List Wish) (f
       → TestLeaves files options wishes folders ending old new
       → LeavesText (IsTestAt files options wishes folders ending) ending old new
   test_left old new Success h = writes_weaker _ _ Whole old new (λ text. test_follows _ _ text (λ runs.
-      all_pass (nat_lt 0 (count_of is_fail (map (verdict_of_run wishes) runs)))
-      (nat_lt 0 (count_of is_not_judged (map (verdict_of_run wishes) runs))))) h
+      all_pass (nat_lt 0 (count_of Fail (map (verdict_of_run wishes) runs)))
+      (nat_lt 0 (count_of NotJudged (map (verdict_of_run wishes) runs))))) h
   test_left old new Alarm h = writes_weaker _ _ Whole old new (λ text. test_follows _ _ text (λ runs.
-      some_fails (nat_lt 0 (count_of is_fail (map (verdict_of_run wishes) runs)))
-      (nat_lt 0 (count_of is_not_judged (map (verdict_of_run wishes) runs))))) h
+      some_fails (nat_lt 0 (count_of Fail (map (verdict_of_run wishes) runs)))
+      (nat_lt 0 (count_of NotJudged (map (verdict_of_run wishes) runs))))) h
   test_left old new Negative h = writes_weaker _ _ Whole old new (λ text. test_follows _ _ text (λ runs.
-      some_not_judged (nat_lt 0 (count_of is_fail (map (verdict_of_run wishes) runs)))
-      (nat_lt 0 (count_of is_not_judged (map (verdict_of_run wishes) runs))))) h
+      some_not_judged (nat_lt 0 (count_of Fail (map (verdict_of_run wishes) runs)))
+      (nat_lt 0 (count_of NotJudged (map (verdict_of_run wishes) runs))))) h
   test_left old new NoPredicate h = absurd h
   test_left old new Misuse h = absurd h
   test_left old new (Failed MemoryFailure) h = part_of_test MemoryFailure old new (inr refl) h

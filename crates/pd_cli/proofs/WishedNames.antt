@@ -2,13 +2,13 @@
 use Rattle.std.proofs.Common.{◌≡◌, ℕ, Bool, List, [], ◌∷◌, ◌++◌, None, Some, Option, true, false, ap, map, refl}
 use Rattle.std.specs.Prelude.{if◌then◌else◌}
 use Rattle.def_format.specs.Documents.{Inquiry}
-use Rattle.app_arguments.specs.Conditions.{Condition, lacks_predicate, unknown_name}
+use Rattle.app_arguments.specs.Conditions.{lacks_predicate, unknown_name}
 use Rattle.app_arguments.specs.Statuses.{HasNamed, LacksNamed}
-use Rattle.judge_runs.specs.Wishes.{Wish, first_unnamed, lacks_name, names_of}
+use Rattle.judge_runs.specs.Wishes.{Condition, first_unnamed, lacks_name, names_of}
 use Rattle.pd_cli.specs.Explorations.{all_named, named_by}
 
 -- what a wish names and what the condition on its predicate does
-pub wished_names : (names : List (List ℕ)) (wishes : List Wish)
+pub wished_names : (names : List (List ℕ)) (wishes : List Condition)
     → unknown_name names (map named_by wishes) ≡ first_unnamed names wishes
 wished_names names [] = refl
 wished_names names (wish ∷ wishes) =
@@ -60,12 +60,12 @@ second_unknown names (condition ∷ first) second all known =
     go true is all known more = absurd (named condition.name known is)
     go false is all known more = more all known
 
-pub has_both : (fail_on : List Condition) (wishes : List Wish) (inquiry : Inquiry) → HasNamed fail_on inquiry
+pub has_both : (fail_on : List Condition) (wishes : List Condition) (inquiry : Inquiry) → HasNamed fail_on inquiry
     → HasNamed (map named_by wishes) inquiry → HasNamed (all_named fail_on wishes) inquiry
 has_both fail_on wishes inquiry first second = λ document is.
     both_known (names_of document.predicates) fail_on (map named_by wishes) (first document is) (second document is)
 
-pub lacks_first : (fail_on : List Condition) (wishes : List Wish) (inquiry : Inquiry) → LacksNamed fail_on inquiry
+pub lacks_first : (fail_on : List Condition) (wishes : List Condition) (inquiry : Inquiry) → LacksNamed fail_on inquiry
     → LacksNamed (all_named fail_on wishes) inquiry
 lacks_first fail_on wishes inquiry lacks = (
   lacks.0,
@@ -73,7 +73,7 @@ lacks_first fail_on wishes inquiry lacks = (
   λ known. lacks.2 (first_unknown (names_of lacks.0.predicates) fail_on (map named_by wishes) known),
 )
 
-pub lacks_second : (fail_on : List Condition) (wishes : List Wish) (inquiry : Inquiry) → HasNamed fail_on inquiry
+pub lacks_second : (fail_on : List Condition) (wishes : List Condition) (inquiry : Inquiry) → HasNamed fail_on inquiry
     → LacksNamed (map named_by wishes) inquiry → LacksNamed (all_named fail_on wishes) inquiry
 lacks_second fail_on wishes inquiry has lacks = (
   lacks.0,

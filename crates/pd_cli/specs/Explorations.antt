@@ -4,23 +4,22 @@ use Rattle.std.specs.List.{AllZip}
 use Rattle.std.specs.Str.{IsUtf8}
 use Rattle.def_format.specs.Documents.{Inquiry, Options}
 use Rattle.def_format.specs.Reports.{Report}
-use Rattle.app_arguments.specs.Conditions.{Condition, SomeUnknown}
+use Rattle.judge_runs.specs.Wishes.{Condition, DefinitelyYes, Kind, PossiblyNo, SomeUnknown}
 use Rattle.app_arguments.specs.Statuses.{Ending, File, LeavesOf, MayBeUnread, OfNamed, OfReport, PageOptions, sources_of}
 use Rattle.app_host.specs.FileSources.{bytes_in}
 use Rattle.def_judgement.specs.Writes.{Source}
 use Rattle.judge_explore.specs.Explored.{IsOwed}
 use Rattle.judge_explore.specs.Sources.{AreFilesOf, StreamFile}
-use Rattle.judge_runs.specs.Wishes as wished
 use Rattle.out_page.specs.ExtraData.{Extras}
 
 -- ---- what the page has beside its session
 
-abbrev pub kind_word : wished.WishKind → List ℕ
-kind_word wished.Never = codes "never"
-kind_word wished.Always = codes "always"
-kind_word wished.Sometimes = codes "sometimes"
+abbrev pub kind_word : Kind → List ℕ
+kind_word PossiblyNo = codes "never"
+kind_word DefinitelyYes = codes "always"
+kind_word _ = codes "sometimes"
 
-abbrev pub shown_wish : wished.Wish → List ℕ × List ℕ
+abbrev pub shown_wish : Condition → List ℕ × List ℕ
 shown_wish wish = (kind_word wish.kind, unwrap_or wish.name [])
 
 -- the note is all that the file of this name holds, if that is known
@@ -49,11 +48,11 @@ pub record IsNotesFile (file : File) : Type 0 where
 -- ---- the predicates that are named
 
 -- a condition on the predicate of a wish: of its kind nothing is asked
-abbrev pub named_by : wished.Wish → Condition
+abbrev pub named_by : Condition → Condition
 named_by wish = record { name = wish.name; kind = SomeUnknown }
 
 -- the conditions on predicates that are named by conditions to fail on and by wishes
-abbrev pub all_named : (fail_on : List Condition) (wishes : List wished.Wish) → List Condition
+abbrev pub all_named : (fail_on : List Condition) (wishes : List Condition) → List Condition
 all_named fail_on wishes = fail_on ++ map named_by wishes
 
 -- ---- what is left

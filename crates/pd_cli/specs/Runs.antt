@@ -6,11 +6,11 @@ use Rattle.def_format.specs.Documents.{Document, Inquiry, IsDocument, Options}
 use Rattle.def_format.specs.Limits.{report_byte_limit}
 use Rattle.def_format.specs.Reports.{Report, Judged, Refused}
 use Rattle.def_judgement.specs.Writes.{IsBrokenOff, IsFindingTextOf, IsTextOfBundle, IsTooLong, Source, Whole, Writes}
-use Rattle.app_arguments.specs.Conditions.{Condition, is_met}
+use Rattle.app_arguments.specs.Conditions.{is_met}
 use Rattle.app_arguments.specs.Places.{Place}
 use Rattle.app_arguments.specs.Statuses.{Alarm, BundleFailure, CheckFiles, DrawFiles, Ending, ExploreFiles, Failed, File, InferDocument, IsTextOfAccepted, JudgeFiles, JudgeInput, MayBeUnread, MemoryFailure, Misuse, Negative, NetworkFailure, NoPredicate, OfClaim, OfDocument, ReadFailure, Request, ServeStreams, ShowHelp, ShowVersion, Success, TestRuns, Unclear, WriteFailure, WritesUpTo, line_of_failure, sources_of, status_of}
-use Rattle.judge_runs.specs.Runs.{Run, count_of, is_fail, is_not_judged, verdict_of_run}
-use Rattle.judge_runs.specs.Wishes.{Wish, lacks_name, names_of}
+use Rattle.judge_runs.specs.Runs.{Fail, NotJudged, Run, count_of, verdict_of_run}
+use Rattle.judge_runs.specs.Wishes.{Condition, lacks_name, names_of}
 use Rattle.app_host.specs.FileSources.{bytes_in}
 use Rattle.app_host.specs.Formats.{IsFormatted}
 use Rattle.app_infer.specs.Inferences.{EndsInferred}
@@ -31,10 +31,10 @@ due_of_report fail_on (Judged processes events messages answers) =
 due_of_report fail_on (Refused refusal) = Negative
 
 -- the end that is due of recorded runs: one fails, or none does and one isn't judged, or all pass
-abbrev pub due_of_runs : List Wish → List Run → Ending
+abbrev pub due_of_runs : List Condition → List Run → Ending
 due_of_runs wishes runs =
-    if nat_lt 0 (count_of is_fail (map (verdict_of_run wishes) runs)) then Alarm else
-    (if nat_lt 0 (count_of is_not_judged (map (verdict_of_run wishes) runs)) then Negative else Success)
+    if nat_lt 0 (count_of Fail (map (verdict_of_run wishes) runs)) then Alarm else
+    (if nat_lt 0 (count_of NotJudged (map (verdict_of_run wishes) runs)) then Negative else Success)
 
 -- the line that is reported
 abbrev pub line_of_ending : Ending → List ℕ
@@ -65,7 +65,7 @@ LeavesReport IsText fail_on ending =
     LeavesText (IsText (λ report. EndsBy (due_of_report fail_on report) ending)) ending
 
 -- the text of a test of the runs in these folders, by which the run ends, and if it fails that of the first of them
-abbrev pub IsTestAt : (files : List ℕ → File) (options : Options) (wishes : List Wish) (folders : List (List ℕ))
+abbrev pub IsTestAt : (files : List ℕ → File) (options : Options) (wishes : List Condition) (folders : List (List ℕ))
     → Ending → (text : List ℕ) → Type 0
 IsTestAt files options wishes folders (Failed failure) text =
     ((failure ≡ WriteFailure) ⊎ (failure ≡ MemoryFailure))
@@ -142,7 +142,7 @@ Leaves input files connections network_serves (ExploreFiles options fail_on page
     By (OfSession options (files document)
     (MayBeUnread (files document ∷ map files streams) (files document ∷ [])
     ⊎ ¬ All IsNotesFile (map files page.notes))
-    (names_in fail_on ++ map (λ (wish : Wish). wish.name) page.wishes) (λ inquiry.
+    (names_in fail_on ++ names_in page.wishes) (λ inquiry.
     LeavesReport (IsOwedWith (bytes_in files) page streams inquiry (sources_of (map files streams))) fail_on))
 Leaves input files connections network_serves (TestRuns options wishes runs) =
     By (λ ending. LeavesText (IsTestAt files options wishes runs ending) ending)

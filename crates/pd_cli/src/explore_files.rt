@@ -1,6 +1,6 @@
 //! Explores the session in files.
 ghost use Rattle.app_arguments.specs.ConditionViews.{fail_on_view};
-ghost use Rattle.app_arguments.specs.Conditions.{Condition};
+ghost use Rattle.judge_runs.specs.Wishes.{Condition};
 ghost use Rattle.app_arguments.specs.Statuses.{OfNamed, OfReport};
 ghost use Rattle.app_arguments.specs.Views.{page_view, session_view};
 ghost use Rattle.pd_cli.specs.Explorations.{AreExtras, ExplorationLeaves, OfPage, all_named};

@@ -8,4 +8,4 @@ returns-in_default c =
     let rows = rows_in c.args.matches.now in
     judge_lacks rows (λ options fail_on format document streams names.
     no_judgement rows c.in_ok-judgement.field-0 c.in_ok-judgement.ensures c.in_default.is document streams options
-    fail_on names.0)
+    fail_on (names.0, names.1))

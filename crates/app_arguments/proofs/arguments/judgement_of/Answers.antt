@@ -5,4 +5,4 @@ use Rattle.app_arguments.proofs.arguments.judgement_of.Goals as goal
 
 pub returns-in_default : goal.returns-in_default
 returns-in_default c document streams options fail_on names =
-    no_workers (rows_in c.args.matches.now) c.workers_of.result c.workers_of.ensures c.in_default.is names.some_workers
+    no_workers (rows_in c.args.matches.now) c.workers_of.result c.workers_of.ensures c.in_default.is names.1.2

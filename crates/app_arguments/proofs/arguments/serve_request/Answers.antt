@@ -8,4 +8,4 @@ returns-in_default-service_of c =
     let rows = rows_in c.args.matches.now in
     serve_lacks rows (λ options fail_on document place port_file watchers wait keep names.
     no_service rows c.service_of.result c.service_of.ensures.found c.in_default-service_of.is document place port_file
-    watchers wait keep names.0 names.3)
+    watchers wait keep names.0 names.1.2)

@@ -6,7 +6,8 @@ use Rattle.std.proofs.lemmas.Str.Pattern.{split_parts}
 use Rattle.pd_report.specs.Reading.{pieces}
 use Rattle.pd_report.proofs.Lists.{all_push, listed_none, listed_some, one_is_none, read_more}
 use Rattle.pd_report.proofs.Pieces.{cut_words, word_last}
-use Rattle.app_arguments.specs.Conditions.{Condition, IsLawful, condition_text}
+use Rattle.app_arguments.specs.Conditions.{IsLawful, condition_text}
+use Rattle.judge_runs.specs.Wishes.{Condition}
 use Rattle.app_arguments.specs.ConditionViews.{condition_view, conditions_view}
 use Rattle.app_arguments.proofs.Lists.{texts_lack}
 use Rattle.app_arguments.proofs.Parts.{lacks_each}

@@ -1,6 +1,7 @@
 -- A word that is none of the kinds' is no kind's.
 use Rattle.std.proofs.Common.{◌≡◌, ℕ, List, codes}
-use Rattle.app_arguments.specs.Conditions.{Kind, PossiblyYes, PossiblyNo, DefinitelyYes, DefinitelyNo, SomeUnknown, kind_text}
+use Rattle.app_arguments.specs.Conditions.{kind_text}
+use Rattle.judge_runs.specs.Wishes.{Kind, PossiblyYes, PossiblyNo, DefinitelyYes, DefinitelyNo, SomeUnknown}
 use Rattle.app_arguments.proofs.kind.kind_of.Goals as goal
 
 none_of : (word : List ℕ) → ¬ (word ≡ codes "possibly") → ¬ (word ≡ codes "possibly-no")

@@ -1,6 +1,6 @@
 -- The lines so far.
 use Rattle.std.proofs.Common.{◌≡◌, ◌++◌, map, take}
-use Rattle.judge_runs.specs.Runs.{indented}
+use Rattle.judge_runs.specs.Tallies.{indented}
 use Rattle.judge_runs.proofs.tally.push_lines.Given as goal
 
 abbrev pub invariant-loop-line : goal.invariant-loop-line
