@@ -42,6 +42,9 @@ VALUES = {
 }
 # What the environment may have: that is said at the end of the program's help too.
 VARIABLES = {"MONITOR_EXPLAIN": "If it is 1, the same is explained as with --explain; each other value is as none"}
+# The option that is taken out of the arguments before they are parsed, so no list of options has it: that of the program
+# and of each command get it.
+ANYWHERE = (None, "max-time", "SECONDS", "End with status 6 if the run takes longer than so many seconds, 1 to 604800")
 MADE = "made by completions/make.py from the program's help"
 OPTION = re.compile(r"^ +(?:-(\w), |    )--([\w-]+)(?: <(\w+)>)? +(.+)$")
 ARGUMENT = re.compile(r"^ +<(\w+)>(\.\.\.)? +(.+)$")
@@ -65,6 +68,7 @@ class Help:
         self.commands = [COMMAND.match(line).groups() for line in headed.get("Commands:", [])]
         self.arguments = [ARGUMENT.match(line).groups() for line in headed.get("Arguments:", [])]
         self.options = [OPTION.match(line).groups() for line in headed.get("Options:", [])]
+        self.options.insert(1 + [name for _, name, _, _ in self.options].index("explain"), ANYWHERE)
         self.statuses = [COMMAND.match(line).groups() for line in headed.get("Status:", [])]
 
 
@@ -113,16 +117,23 @@ _monitor_conditions() {{
 }}
 
 _monitor() {{
-  local line="${{COMP_LINE:0:COMP_POINT}}" all words=() word current previous command options
+  local line="${{COMP_LINE:0:COMP_POINT}}" all words=() word current previous command options skip=''
   read -ra all <<< "$line"
   case "$line" in *[[:space:]]) all+=('') ;; esac
-  # --explain may stand anywhere, before a command too
-  for word in "${{all[@]:0:${{#all[@]}}-1}}"; do [ "$word" = --explain ] || words+=("$word"); done
+  # --explain, and --max-time with its value, may stand anywhere, before a command too
+  for word in "${{all[@]:0:${{#all[@]}}-1}}"; do
+    if [ -n "$skip" ]; then
+      skip=''
+    else
+      case "$word" in --explain | --max-time=*) ;; --max-time) skip=1 ;; *) words+=("$word") ;; esac
+    fi
+  done
   words+=("${{all[-1]}}")
   current="${{words[-1]}}" previous='' command="${{words[1]:-}}"
   [ "${{#words[@]}}" -gt 1 ] && previous="${{words[-2]}}"
   case "$current" in --*=*) previous="${{current%%=*}}" current="${{current#*=}}" ;; esac
   COMPREPLY=()
+  [ -n "$skip" ] && return
   if [ "${{#words[@]}}" -le 2 ]; then
     COMPREPLY=($(compgen -W '{names} {' '.join(flags(top.options))}' -- "$current"))
     return
@@ -309,16 +320,20 @@ def is_there(shell):
 def wrong_completions(files):
     """The lines that bash completes otherwise than it should, and fish, if it is there; and what zsh can't read."""
     every = ["judge", "check", "draw", "serve", "explore", "test", "infer", "help", "-h", "--help", "-V", "--version",
-             "--explain"]
+             "--explain", "--max-time"]
     wanted = {
         "monitor ": every,
         "monitor j": ["judge"],
         "monitor --v": ["--version"],
         "monitor --explain ju": ["judge"],
+        "monitor --max-time 5 ju": ["judge"],
+        "monitor --max-time=5 ju": ["judge"],
+        "monitor --max-time ": [],
+        "monitor judge --max-time 5 --fa": ["--fail-on"],
         "monitor --explain draw session report a --evidence ": ["possibly", "definitely"],
         "monitor judge -": [
             "--width", "--ask", "--workers", "--beyond-width", "--fail-on", "--format", "--notes", "-h", "--help",
-            "--explain"],
+            "--explain", "--max-time"],
         "monitor judge --fa": ["--fail-on"],
         "monitor judge session --format ": ["text", "json"],
         "monitor test --n": ["--never"],
@@ -332,7 +347,8 @@ def wrong_completions(files):
         "monitor serve session --port ": [],
         "monitor explore session a --n": ["--never", "--notes"],
         "monitor draw --": [
-            "--width", "--ask", "--beyond-width", "--predicate", "--evidence", "--from", "--all", "--help", "--explain"],
+            "--width", "--ask", "--beyond-width", "--predicate", "--evidence", "--from", "--all", "--help", "--explain",
+            "--max-time"],
         "monitor draw session report a --evidence ": ["possibly", "definitely"],
         "monitor help s": ["serve"],
         "monitor check ": [],

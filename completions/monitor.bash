@@ -13,21 +13,30 @@ _monitor_conditions() {
 }
 
 _monitor() {
-  local line="${COMP_LINE:0:COMP_POINT}" all words=() word current previous command options
+  local line="${COMP_LINE:0:COMP_POINT}" all words=() word current previous command options skip=''
   read -ra all <<< "$line"
   case "$line" in *[[:space:]]) all+=('') ;; esac
-  # --explain may stand anywhere, before a command too
-  for word in "${all[@]:0:${#all[@]}-1}"; do [ "$word" = --explain ] || words+=("$word"); done
+  # --explain, and --max-time with its value, may stand anywhere, before a command too
+  for word in "${all[@]:0:${#all[@]}-1}"; do
+    if [ -n "$skip" ]; then
+      skip=''
+    else
+      case "$word" in --explain | --max-time=*) ;; --max-time) skip=1 ;; *) words+=("$word") ;; esac
+    fi
+  done
   words+=("${all[-1]}")
   current="${words[-1]}" previous='' command="${words[1]:-}"
   [ "${#words[@]}" -gt 1 ] && previous="${words[-2]}"
   case "$current" in --*=*) previous="${current%%=*}" current="${current#*=}" ;; esac
   COMPREPLY=()
+  [ -n "$skip" ] && return
   if [ "${#words[@]}" -le 2 ]; then
-    COMPREPLY=($(compgen -W 'judge check draw serve explore test infer help --explain -h --help -V --version' -- "$current"))
+    COMPREPLY=($(compgen -W 'judge check draw serve explore test infer help --explain --max-time -h --help -V --version' -- "$current"))
     return
   fi
   case "$previous" in
+    --max-time)
+      return ;;
     --width)
       return ;;
     --ask)
@@ -74,13 +83,13 @@ _monitor() {
       return ;;
   esac
   case "$command" in
-    judge) options='--explain --width --ask --workers --beyond-width --fail-on --format --notes -h --help' ;;
-    check) options='--explain --width --ask --notes -h --help' ;;
-    draw) options='--explain --width --ask --beyond-width --predicate --evidence --from --all -h --help' ;;
-    serve) options='--explain --width --ask --port --bind --socket --port-file --watchers --wait --keep --workers --beyond-width --fail-on -h --help' ;;
-    explore) options='--explain --width --ask --workers --beyond-width --fail-on --never --always --sometimes --notes --link -h --help' ;;
-    test) options='--explain --width --ask --workers --never --always --sometimes -h --help' ;;
-    infer) options='--explain -h --help' ;;
+    judge) options='--explain --max-time --width --ask --workers --beyond-width --fail-on --format --notes -h --help' ;;
+    check) options='--explain --max-time --width --ask --notes -h --help' ;;
+    draw) options='--explain --max-time --width --ask --beyond-width --predicate --evidence --from --all -h --help' ;;
+    serve) options='--explain --max-time --width --ask --port --bind --socket --port-file --watchers --wait --keep --workers --beyond-width --fail-on -h --help' ;;
+    explore) options='--explain --max-time --width --ask --workers --beyond-width --fail-on --never --always --sometimes --notes --link -h --help' ;;
+    test) options='--explain --max-time --width --ask --workers --never --always --sometimes -h --help' ;;
+    infer) options='--explain --max-time -h --help' ;;
     help)
       COMPREPLY=($(compgen -W 'judge check draw serve explore test infer help' -- "$current"))
       return ;;

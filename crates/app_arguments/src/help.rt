@@ -15,6 +15,9 @@ pub(crate) const AFTER: &str = "\
 With --explain anywhere in the arguments the answers, a refusal and whatever fails are explained on the standard \
 error; in a terminal, or with MONITOR_EXPLAIN=1 in the environment, it is so without that.
 
+With --max-time SECONDS anywhere in the arguments, 1 to 604800, a run that takes longer ends with status 6. Then \
+nothing is written to the standard output but the lines of the runs that `test` has judged.
+
 Status:
   0  The session is judged, and no condition of --fail-on is met; all tested runs pass; a check finds nothing bad; the \
 picture, the page, the first document or the help is written
@@ -24,7 +27,8 @@ check finds something bad, or what stands against the picture
   3  A file can't be opened or read, a port can't be bound, a stream can't be accepted or doesn't come in time, or the \
 output or what is to be kept can't be written
   4  Memory runs out
-  5  The session is judged, and a condition of --fail-on is met; a tested run fails";
+  5  The session is judged, and a condition of --fail-on is met; a tested run fails
+  6  The time of --max-time is over";
 
 /// What is wanted of a list of conditions.
 pub(crate) const LIST_USAGE: &str =
@@ -64,6 +68,7 @@ An answer is unknown where a level of the lattice has more cuts than the documen
 predicates that name at most two processes are answered all the same and, as far as docs/SPECIFICATION.md says, those \
 of which each comparison names one process; and whether an `or` of such predicates, or most predicates with one sum \
 over several processes in each term, possibly holds; and mostly whether any other definitely holds.\n\n\
+With --max-time SECONDS the status is 6 if the run takes longer, and nothing is written to the standard output.\n\n\
 The formats are described in docs/SPECIFICATION.md. An example, at the top of the repository:\n  \
 crates/monitor/out/monitor judge examples/ten-lines/session.json examples/ten-lines/left.stream \
 examples/ten-lines/right.stream";
@@ -84,6 +89,7 @@ the arguments are refused, 3 if a file can't be opened or read or the output can
 out.\n\n\
 With --notes an explanation says what recorders noted of the events that it names, in files beside the streams. What \
 is found and the status are the same.\n\n\
+With --max-time SECONDS the status is 6 if the run takes longer, and nothing is written to the standard output.\n\n\
 The formats are described in docs/SPECIFICATION.md. An example, at the top of the repository:\n  \
 crates/monitor/out/monitor check examples/ten-lines/session.json examples/ten-lines/report \
 examples/ten-lines/left.stream examples/ten-lines/right.stream";
@@ -103,6 +109,7 @@ held against the document and the streams as `check` does. The status is 0 if th
 is refused or something that a check finds stands against the picture, which is then written to the standard error, 2 \
 if the arguments are refused or there is no predicate of the name, or no evidence of the kind, that is asked for, 3 if \
 a file can't be opened or read or the output can't be written, and 4 if memory runs out.\n\n\
+With --max-time SECONDS the status is 6 if the run takes longer, and nothing is written to the standard output.\n\n\
 The formats are described in docs/SPECIFICATION.md. An example, at the top of the repository:\n  \
 crates/monitor/out/monitor draw examples/ten-lines/session.json examples/ten-lines/left.stream \
 examples/ten-lines/right.stream > picture.svg";
@@ -127,6 +134,7 @@ An answer is unknown where a level of the lattice has more cuts than the documen
 predicates that name at most two processes are answered all the same and, as far as docs/SPECIFICATION.md says, those \
 of which each comparison names one process; and whether an `or` of such predicates, or most predicates with one sum \
 over several processes in each term, possibly holds; and mostly whether any other definitely holds.\n\n\
+With --max-time SECONDS the status is 6 if the run takes longer, and nothing is written to the standard output.\n\n\
 The formats are described in docs/SPECIFICATION.md. An example, at the top of the repository:\n  \
 crates/monitor/out/monitor serve examples/live/session.json --port 7411\nand then, from another terminal:\n  \
 cat examples/live/left.stream > /dev/tcp/127.0.0.1/7411 & cat examples/live/right.stream > /dev/tcp/127.0.0.1/7411";
@@ -147,6 +155,7 @@ With --fail-on the status may be 5, as that of `judge`, whose help says what LIS
 same. With --never, --always and --sometimes the page says which predicates are not as wished.\n\n\
 With --notes the page shows what recorders noted of the events, in files beside the streams, and with --link a link to \
 each place in a source: PATTERN with {file} and {line} in it, as https://host/file/{file}#L{line}.\n\n\
+With --max-time SECONDS the status is 6 if the run takes longer, and nothing is written to the standard output.\n\n\
 The formats are described in docs/SPECIFICATION.md. An example, at the top of the repository:\n  \
 crates/monitor/out/monitor explore examples/ten-lines/session.json examples/ten-lines/left.stream \
 examples/ten-lines/right.stream > run.html";
@@ -168,6 +177,8 @@ unnamed  the document lacks a predicate that is wished for, and which\n\n\
 Then come the numbers of runs, and once more the first lines of those that don't pass. The status is 0 if all runs \
 pass, 5 if one fails, or else 1 if one could not be judged, 2 if the arguments are refused, 3 if the output can't be \
 written, and 4 if memory runs out.\n\n\
+With --max-time SECONDS the status is 6 if the run takes longer, and nothing is written to the standard output \
+but the lines of the runs that were judged, and a last line that says so.\n\n\
 The formats are described in docs/SPECIFICATION.md. An example, at the top of the repository:\n  \
 crates/monitor/out/monitor test examples/redis-lock examples/redis-lock-fenced";
 
@@ -181,5 +192,6 @@ events set, with the initial value 0, the version 2 if a message is received mor
 under the name replace_this. Put your question there, or ask it by --ask. The status is 0 if the document is written, \
 1 if a stream is refused, 2 if the arguments are refused, 3 if a file can't be opened or read or the output can't be \
 written, and 4 if memory runs out.\n\n\
+With --max-time SECONDS the status is 6 if the run takes longer, and nothing is written to the standard output.\n\n\
 The formats are described in docs/SPECIFICATION.md. An example, at the top of the repository:\n  \
 crates/monitor/out/monitor infer examples/ten-lines/left.stream examples/ten-lines/right.stream > session.json";

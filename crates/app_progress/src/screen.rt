@@ -1,8 +1,9 @@
 //! The line of a terminal that is written over.
+use super::progress::Progress;
 use pd_engine::Reached;
 use std::io::Eprint;
-use std::sync::atomic::{AtomicBool, AtomicU64, Ordering};
-use std::time::Clock;
+use std::sync::atomic::{AtomicU64, Ordering};
+use std::time::{Clock, Duration};
 
 /// How many milliseconds of work pass before anything is shown.
 const PATIENCE: u64 = 1000;
@@ -13,6 +14,9 @@ const PAUSE: u64 = 100;
 /// How many bytes are a tenth of the unit in which bytes are shown.
 const TENTH: u64 = 100_000;
 
+/// How many seconds a run that is ended stands still: the process ends at once.
+const STILL: u64 = 60;
+
 /// The line of a terminal that is written over, and what it says; or none, which says nothing and asks no clock.
 ///
 /// The line is written with the terminal's wrapping off, and so ends with the row of a narrow one: what went on in the
@@ -20,20 +24,14 @@ const TENTH: u64 = 100_000;
 #[derive(Drop)]
 pub struct Screen<'a, R> {
     rt: &'a R,
+    /// How far the run has come.
+    progress: &'a Progress,
     /// Whether there is a terminal.
     is_there: bool,
     /// When it began, in milliseconds of the clock.
     start: u64,
     /// When the line was last written.
     last: AtomicU64,
-    /// Whether there is a line.
-    has_line: AtomicBool,
-    /// How many bytes were read of all files that began to be read.
-    read: AtomicU64,
-    /// How many bytes these files have, as far as that is known.
-    whole: AtomicU64,
-    /// How many files are being read.
-    open: AtomicU64,
 }
 
 /// The time of the clock in milliseconds; 0 if it can't be read.
@@ -47,18 +45,22 @@ fn millis<R: Clock>(rt: &R) -> u64 {
     }
 }
 
+/// Leaves nothing of the line of a terminal that shows how far a run has come, if there is one.
+pub(crate) fn clear<R: Eprint>(rt: &R, progress: &Progress) {
+    if progress.has_line.swap(false, Ordering::SeqCst) {
+        let _ = eprint!(rt; "\r\u{1b}[K");
+    }
+}
+
 impl<'a, R: Clock + Eprint> Screen<'a, R> {
-    /// A terminal on which nothing is shown yet, if there is one.
-    pub fn new(rt: &'a R, is_there: bool) -> Screen<'a, R> {
+    /// A terminal on which nothing is shown yet of this run, if there is one.
+    pub fn new(rt: &'a R, progress: &'a Progress, is_there: bool) -> Screen<'a, R> {
         Screen {
             rt,
+            progress,
             is_there,
             start: if is_there { millis(rt) } else { 0 },
             last: AtomicU64::new(0),
-            has_line: AtomicBool::new(false),
-            read: AtomicU64::new(0),
-            whole: AtomicU64::new(0),
-            open: AtomicU64::new(0),
         }
     }
 
@@ -69,34 +71,31 @@ impl<'a, R: Clock + Eprint> Screen<'a, R> {
         if now < self.start.saturating_add(PATIENCE) || now < last.saturating_add(PAUSE) {
             return false;
         }
+        if self.progress.is_ended() {
+            return false;
+        }
         self.last.store(now, Ordering::SeqCst);
-        self.has_line.store(true, Ordering::SeqCst);
+        self.progress.has_line.store(true, Ordering::SeqCst);
         true
     }
 
     /// A file of this many bytes, or 0 if that isn't known, begins to be read.
     pub(crate) fn begin(&self, size: u64) {
-        if self.is_there {
-            self.whole.fetch_add(size, Ordering::SeqCst);
-            self.open.fetch_add(1, Ordering::SeqCst);
-        }
+        self.progress.begin(size);
     }
 
     /// This many more bytes are read.
     pub(crate) fn advance(&self, count: u64) {
-        if !self.is_there {
-            return;
-        }
-        self.read.fetch_add(count, Ordering::SeqCst);
-        if self.is_due() {
+        self.progress.advance(count);
+        if self.is_there && self.is_due() {
             self.show_bytes();
         }
     }
 
     /// Shows how many bytes are read.
     fn show_bytes(&self) {
-        let read = self.read.load(Ordering::SeqCst);
-        let whole = self.whole.load(Ordering::SeqCst);
+        let read = self.progress.read.load(Ordering::SeqCst);
+        let whole = self.progress.whole.load(Ordering::SeqCst);
         let (units, tenths) = (read / TENTH / 10, read / TENTH % 10);
         if whole < read {
             let _ = eprint!(self.rt; "\r\u{1b}[K\u{1b}[?7lreading: {units}.{tenths} MB\u{1b}[?7h");
@@ -110,13 +109,14 @@ impl<'a, R: Clock + Eprint> Screen<'a, R> {
 
     /// A file is read as far as it will be. After the last one nothing is left of the line.
     pub(crate) fn end(&self) {
-        if self.is_there && self.open.fetch_sub(1, Ordering::SeqCst) == 1 {
+        if self.progress.end() {
             self.clear();
         }
     }
 
     /// A walk has come to this level.
     pub(crate) fn reach(&self, level: Reached) {
+        self.progress.reach(level);
         if self.is_there && self.is_due() {
             let Reached {
                 number,
@@ -132,8 +132,20 @@ impl<'a, R: Clock + Eprint> Screen<'a, R> {
 
     /// Leaves nothing of the line, if there is one.
     pub(crate) fn clear(&self) {
-        if self.is_there && self.has_line.swap(false, Ordering::SeqCst) {
-            let _ = eprint!(self.rt; "\r\u{1b}[K");
+        clear(self.rt, self.progress);
+    }
+
+    /// Whether the run may write: it does from now on. If it is ended before its time, it stands still first.
+    pub(crate) fn may_write(&self) -> bool {
+        let may = self.progress.may_write();
+        if !may {
+            self.rt.sleep(Duration::from_secs(STILL));
         }
+        may
+    }
+
+    /// What the run has written is whole so far, and it may be ended.
+    pub(crate) fn pause(&self) {
+        self.progress.pause();
     }
 }

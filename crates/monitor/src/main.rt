@@ -2,11 +2,12 @@
 //! which runs it.
 #![tactic(auto)]
 
-use app_progress::{Cleared, Screen, ShownFile, ShownFiles};
+use app_progress::{Cleared, Limited, Screen, ShownFile, ShownFiles, TimedRun};
 use std::env::{Env, FillError};
 use std::io::{IsTerminal, Write};
 use std::process::ExitCode;
-use std::{env, fs, io};
+use std::sync::Arc;
+use std::{env, fs, io, thread};
 
 /// What is said of a bundle that is to be typed at a terminal.
 const BUNDLE_READ: &[u8] =
@@ -60,40 +61,115 @@ fn can_write_over(rt: &HostRuntime) -> bool {
 /// What is opened in the place of a standard descriptor that was closed: it can be neither read nor written.
 const NOTHING: &str = "/";
 
-/// Explanations are wanted if the errors go to a terminal, or by the word `--explain` or `MONITOR_EXPLAIN=1`.
+/// The status of arguments that are refused.
+const MISUSED: u8 = 2;
+
+/// The status if memory runs out.
+const FAILED: u8 = 4;
+
+/// The status if the time is over.
+const OUT_OF_TIME: u8 = 6;
+
+/// The line for a run for which memory runs out.
+const MEMORY: &[u8] = b"monitor: memory\n";
+
+/// Writes this to the errors, and gives the status.
+fn report<E: Write>(text: &[u8], errors: &mut E, status: u8) -> u8 {
+    let _ = errors.write_all(text);
+    status
+}
+
+/// What is asked for.
+#[derive(Drop)]
+struct Asked {
+    /// The arguments that are parsed, after the program's name.
+    arguments: Vec<String>,
+    /// How many seconds the run may take, if that is limited.
+    seconds: Option<u64>,
+    /// Whether explanations are wanted.
+    explain: bool,
+}
+
+/// What is asked for: explanations if the errors go to a terminal, or by the word `--explain` or `MONITOR_EXPLAIN=1`.
 ///
+/// # Errors
+/// The status of arguments that can't be had, or are refused, which is reported.
+fn read_arguments<E: Write + IsTerminal>(rt: &HostRuntime, errors: &mut E) -> Result<Asked, u8> {
+    let (arguments, is_asked) = match arguments(rt) {
+        Ok(arguments) => pd_cli::without_explain(arguments),
+        Err(error) => return Err(pd_cli::report_unread_arguments(&error, errors)),
+    };
+    let (arguments, seconds) = match pd_cli::without_max_time(arguments) {
+        Ok(rest) => rest,
+        Err(fault) => return Err(report(fault.text().as_bytes(), errors, MISUSED)),
+    };
+    let explain = is_asked || is_explained(rt) || errors.is_terminal();
+    if explain && arguments.len() <= 1 && rt.stdin().is_terminal() {
+        let _ = errors.write_all(BUNDLE_READ);
+    }
+    if inputs(&arguments) > 1 {
+        return Err(report(INPUT_TWICE, errors, MISUSED));
+    }
+    Ok(Asked {
+        arguments,
+        seconds,
+        explain,
+    })
+}
+
 /// Each of the three standard descriptors that was closed is taken before any other file is opened. Else a file that is
 /// opened later would have its number, and what goes to the errors would stand in it.
+///
+/// If the time is limited, the run is made in a thread of its own, and this one waits for it. If the time is over
+/// first, this one returns, and so the process ends with all its threads.
 fn main(rt: HostRuntime) -> ExitCode {
     let _input = fs::open(&rt, NOTHING);
     let _output = fs::open(&rt, NOTHING);
     let _errors = fs::open(&rt, NOTHING);
     let mut errors = rt.stderr();
-    let status = match arguments(&rt) {
-        Ok(arguments) => {
-            let (arguments, is_asked) = pd_cli::without_explain(arguments);
-            let explain = is_asked || is_explained(&rt) || errors.is_terminal();
-            if explain && arguments.len() <= 1 && rt.stdin().is_terminal() {
-                let _ = errors.write_all(BUNDLE_READ);
-            }
-            if inputs(&arguments) > 1 {
-                let _ = errors.write_all(INPUT_TWICE);
-                return ExitCode::from(2);
-            }
-            let screen = Screen::new(&rt, errors.is_terminal() && can_write_over(&rt));
-            pd_cli::run(
-                &rt,
-                &ShownFiles::new(&rt, &screen),
-                &rt,
-                rt.alloc(),
-                arguments,
-                ShownFile::new(rt.stdin(), 0, &screen),
-                explain,
-                &mut Cleared::new(rt.stdout(), &screen),
-                &mut Cleared::new(errors, &screen),
-            )
-        }
-        Err(error) => pd_cli::report_unread_arguments(&error, &mut errors),
+    let asked = match read_arguments(&rt, &mut errors) {
+        Ok(asked) => asked,
+        Err(status) => return ExitCode::from(status),
     };
-    ExitCode::from(status)
+    let Asked {
+        arguments,
+        seconds,
+        explain,
+    } = asked;
+    let limited = Limited::new(&arguments, seconds.unwrap_or(0), explain);
+    let is_shown = errors.is_terminal() && can_write_over(&rt);
+    let Ok(ours) = Arc::new(rt.alloc(), TimedRun::new(is_shown || seconds.is_some())) else {
+        return ExitCode::from(report(MEMORY, &mut errors, FAILED));
+    };
+    let Ok(theirs) = Arc::try_clone(&ours) else {
+        return ExitCode::from(report(MEMORY, &mut errors, FAILED));
+    };
+    let run = move || -> u8 {
+        // What is handed on is moved out of the closure before a part of it is lent.
+        let arguments = arguments;
+        let screen = Screen::new(&rt, &theirs.progress, is_shown);
+        let status = pd_cli::run(
+            &rt,
+            &ShownFiles::new(&rt, &screen),
+            &rt,
+            rt.alloc(),
+            arguments,
+            ShownFile::new(rt.stdin(), 0, &screen),
+            explain,
+            &mut Cleared::new(rt.stdout(), &screen, limited.is_test),
+            &mut Cleared::new(rt.stderr(), &screen, false),
+        );
+        theirs.end(&rt);
+        status
+    };
+    if seconds.is_none() {
+        return ExitCode::from(run());
+    }
+    let Ok(thread) = thread::spawn(&rt, run) else {
+        return ExitCode::from(report(MEMORY, &mut errors, FAILED));
+    };
+    if ours.is_out_of_time(&rt, rt.alloc(), &limited, &mut rt.stdout(), &mut errors) {
+        return ExitCode::from(OUT_OF_TIME);
+    }
+    ExitCode::from(thread.join(&rt))
 }

@@ -2,5 +2,6 @@ pub mod Drawings
 pub mod ShownDrawings
 pub mod Explorations
 pub mod Explained
+pub mod TimeLimits
 pub mod Runs
 pub mod RunCases

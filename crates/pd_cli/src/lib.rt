@@ -24,6 +24,7 @@
 //! - `page_extras`: what a page has beside its session, by what is asked for
 //! - `explore_files`: explores the session in files
 //! - `explaining`: whether the arguments ask for explanations
+//! - `time_limit`: how many seconds a run may take, by the arguments
 //! - `explanation`: writes an explanation to the errors
 #![tactic(auto)]
 
@@ -37,6 +38,7 @@ mod explore_files;
 mod page_extras;
 mod parser_error;
 mod program;
+mod time_limit;
 mod whole_files;
 mod wished;
 
@@ -45,3 +47,4 @@ pub use app_host::{FileSource, Network};
 pub use explaining::without_explain;
 pub use parser_error::report_unread_arguments;
 pub use program::run;
+pub use time_limit::{TimeFault, without_max_time};

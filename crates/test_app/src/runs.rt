@@ -2,7 +2,7 @@
 use super::networks::Scripted;
 use super::sinks::{Limits, Sink};
 use super::small::{BUNDLE, Files};
-use app_progress::{Cleared, Screen, ShownFile, ShownFiles};
+use app_progress::{Cleared, Progress, Screen, ShownFile, ShownFiles};
 use pd_cli::run;
 use std::alloc::{AllocError, Global};
 use std::io::Eprint;
@@ -60,7 +60,8 @@ pub(crate) fn run_to<T: RandomSource + Threads + Wait + Clock + Eprint + Sync>(
     }
     let mut output = Sink::new(alloc, output);
     let mut errors = Sink::new(alloc, errors);
-    let screen = Screen::new(threads, false);
+    let progress = Progress::new(false);
+    let screen = Screen::new(threads, &progress, false);
     let status = run(
         threads,
         &ShownFiles::new(&Files, &screen),
@@ -69,8 +70,8 @@ pub(crate) fn run_to<T: RandomSource + Threads + Wait + Clock + Eprint + Sync>(
         arguments,
         ShownFile::new(BUNDLE.as_bytes(), 0, &screen),
         false,
-        &mut Cleared::new(&mut output, &screen),
-        &mut Cleared::new(&mut errors, &screen),
+        &mut Cleared::new(&mut output, &screen, false),
+        &mut Cleared::new(&mut errors, &screen, false),
     );
     Ok(Ran {
         status,

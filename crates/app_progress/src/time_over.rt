@@ -1,0 +1,170 @@
+//! What is reported of a run that is ended because its time is over.
+use super::progress::Progress;
+use super::screen::clear;
+use app_host::write_line;
+use app_text::{in_rows, say, say_number};
+use std::alloc::{AllocError, Global};
+use std::io::{Eprint, Write};
+use std::sync::atomic::Ordering;
+use std::time::Duration;
+
+/// How many bytes are a tenth of the unit in which bytes are said.
+const TENTH: u64 = 100_000;
+
+/// The line for a run that is ended because its time is over.
+const TIME: &[u8] = b"monitor: time\n";
+
+/// The command that waits for connections.
+const SERVE: &str = "serve";
+
+/// The command that writes a line for each run.
+const TEST: &str = "test";
+
+/// The option by which predicates are answered beyond the width.
+const BEYOND: &str = "--beyond-width";
+
+/// A run that may take no more than some seconds, by its arguments.
+#[derive(Clone, Copy)]
+pub struct Limited {
+    /// How many seconds it may take.
+    seconds: u64,
+    /// Whether an explanation is wanted.
+    explain: bool,
+    /// Whether runs are tested: each line of what is written is whole then.
+    pub is_test: bool,
+    /// Whether streams come by connections.
+    is_served: bool,
+    /// Whether predicates are answered beyond the width.
+    is_beyond: bool,
+}
+
+/// Whether the arguments ask for this command.
+fn asks_for(arguments: &[String], command: &str) -> bool {
+    arguments.len() > 1 && arguments[1].as_str() == command
+}
+
+impl Limited {
+    /// A run on these arguments, of which the first is the program's name, that may take so many seconds.
+    pub fn new(arguments: &[String], seconds: u64, explain: bool) -> Limited {
+        let is_test = asks_for(arguments, TEST);
+        Limited {
+            seconds,
+            explain,
+            is_test,
+            is_served: asks_for(arguments, SERVE),
+            is_beyond: is_test || arguments.iter().any(|argument| argument.as_str() == BEYOND),
+        }
+    }
+
+    /// How long the run may take.
+    pub(crate) fn time(&self) -> Duration {
+        Duration::from_secs(self.seconds)
+    }
+}
+
+/// Says how many bytes, in megabytes.
+fn say_megabytes(out: &mut Vec<u8>, bytes: u64) -> Result<(), AllocError> {
+    say_number(out, bytes / TENTH / 10)?;
+    say(out, ".")?;
+    say_number(out, bytes / TENTH % 10)
+}
+
+/// Says that files were read, and how far.
+fn say_reading(out: &mut Vec<u8>, progress: &Progress) -> Result<(), AllocError> {
+    let read = progress.read.load(Ordering::SeqCst);
+    let whole = progress.whole.load(Ordering::SeqCst);
+    say(out, "The files were being read: ")?;
+    say_megabytes(out, read)?;
+    if whole >= read {
+        say(out, " of ")?;
+        say_megabytes(out, whole)?;
+    }
+    say(
+        out,
+        " MB.\nWhat to do: give it more time, or shorter streams; a pipe that stays open is waited for.\n",
+    )
+}
+
+/// Says to which level a walk had come.
+fn say_level(out: &mut Vec<u8>, progress: &Progress) -> Result<(), AllocError> {
+    let level = progress.level.load(Ordering::SeqCst);
+    say(out, "A walk up the levels had come to level ")?;
+    say_number(out, level.saturating_sub(1))?;
+    say(out, " of ")?;
+    say_number(out, progress.last.load(Ordering::SeqCst))?;
+    say(out, ", which has ")?;
+    say_number(out, progress.cuts.load(Ordering::SeqCst))?;
+    say(
+        out,
+        " cuts.\nWhat to do: give it more time, or more --workers; or a smaller --width, by which what needs wide \
+levels stays unknown; or ask less at once, by --ask. With --beyond-width many predicates need no level.\n",
+    )
+}
+
+/// Says what is done once all is read, as long as no level is walked.
+fn say_between(
+    out: &mut Vec<u8>,
+    limited: &Limited,
+    progress: &Progress,
+) -> Result<(), AllocError> {
+    say(
+        out,
+        if progress.read.load(Ordering::SeqCst) == 0 {
+            "Nothing was read yet.\nWhat to do: give it more time; a pipe to which nobody writes is waited for.\n"
+        } else if limited.is_served {
+            "No level was walked yet: the streams were waited for or read, or the predicates were being answered.\n\
+What to do: give it more time, and --wait for streams that may not come.\n"
+        } else if limited.is_beyond {
+            "All that is read first was read, and no level was being walked: the predicates were being answered beyond \
+the width.\nWhat to do: give it more time, or ask less at once, by --ask.\n"
+        } else {
+            "All that is read first was read, and no level was being walked yet.\nWhat to do: give it more time, or \
+ask less at once, by --ask.\n"
+        },
+    )
+}
+
+/// Explains that the time is over: what was being done, and what to do.
+fn explain_time(
+    out: &mut Vec<u8>,
+    limited: &Limited,
+    progress: &Progress,
+) -> Result<(), AllocError> {
+    say(out, "The time of --max-time is over, ")?;
+    say_number(out, limited.seconds)?;
+    say(out, " s.\n")?;
+    say(
+        out,
+        if limited.is_test {
+            "The lines of the runs that were judged are written, and a last line says that there are no more.\n"
+        } else {
+            "Nothing is written to the standard output.\n"
+        },
+    )?;
+    if progress.open.load(Ordering::SeqCst) > 0 {
+        say_reading(out, progress)
+    } else if progress.level.load(Ordering::SeqCst) > 0 {
+        say_level(out, progress)
+    } else {
+        say_between(out, limited, progress)
+    }
+}
+
+/// Reports that a run is ended because its time is over: an explanation, if one is wanted, and a line.
+pub(crate) fn report_time<R: Eprint, E: Write>(
+    rt: &R,
+    alloc: Global,
+    limited: &Limited,
+    progress: &Progress,
+    errors: &mut E,
+) {
+    clear(rt, progress);
+    if limited.explain {
+        let mut out = Vec::new(alloc);
+        let _ = explain_time(&mut out, limited, progress);
+        if let Ok(rows) = in_rows(alloc, &out) {
+            let _ = errors.write_all(&rows);
+        }
+    }
+    write_line(TIME, errors);
+}
