@@ -347,8 +347,8 @@ def wrong_completions(files):
         "monitor serve session --port ": [],
         "monitor explore session a --n": ["--never", "--notes"],
         "monitor draw --": [
-            "--width", "--ask", "--beyond-width", "--predicate", "--evidence", "--from", "--all", "--help", "--explain",
-            "--max-time"],
+            "--width", "--ask", "--beyond-width", "--predicate", "--evidence", "--from", "--all", "--notes", "--help",
+            "--explain", "--max-time"],
         "monitor draw session report a --evidence ": ["possibly", "definitely"],
         "monitor help s": ["serve"],
         "monitor check ": [],

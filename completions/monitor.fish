@@ -44,6 +44,7 @@ complete -c monitor -n '__fish_seen_subcommand_from draw' -l predicate -x -d 'Th
 complete -c monitor -n '__fish_seen_subcommand_from draw' -l evidence -x -a 'possibly definitely' -d 'The evidence that is drawn: possibly, a cut, or definitely, a path; without it the cut, or else the path'
 complete -c monitor -n '__fish_seen_subcommand_from draw' -l from -x -d 'The first column that is drawn, of at most 24; without it those around the evidence are'
 complete -c monitor -n '__fish_seen_subcommand_from draw' -l all -d 'Draw all columns'
+complete -c monitor -n '__fish_seen_subcommand_from draw' -l notes -x -d 'A file of notes on events, as recorders write them beside a stream, which stand below the events'\'' dots; given again, one more'
 complete -c monitor -n '__fish_seen_subcommand_from draw' -s h -l help -d 'Print help'
 complete -c monitor -n '__fish_seen_subcommand_from serve' -l explain -d 'Explain the answers, a refusal or what fails, on the standard error'
 complete -c monitor -n '__fish_seen_subcommand_from serve' -l max-time -x -d 'End with status 6 if the run takes longer than so many seconds, 1 to 604800'

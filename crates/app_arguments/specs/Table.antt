@@ -103,7 +103,7 @@ draw_arguments =
     on_document ++ (placed (codes "FILE") kinds.Names ∷ beyond_width
     ∷ option (codes "PREDICATE") (codes "predicate") kinds.Text ∷ option (codes "KIND") (codes "evidence") kinds.Text
     ∷ option (codes "COLUMN") (codes "from") (kinds.Number 1 column_number_limit)
-    ∷ option (codes "ALL") (codes "all") kinds.Flag ∷ [])
+    ∷ option (codes "ALL") (codes "all") kinds.Flag ∷ notes ∷ [])
 
 abbrev pub serve_arguments : List Argument
 serve_arguments =

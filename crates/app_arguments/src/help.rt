@@ -109,6 +109,8 @@ held against the document and the streams as `check` does. The status is 0 if th
 is refused or something that a check finds stands against the picture, which is then written to the standard error, 2 \
 if the arguments are refused or there is no predicate of the name, or no evidence of the kind, that is asked for, 3 if \
 a file can't be opened or read or the output can't be written, and 4 if memory runs out.\n\n\
+With --notes the picture shows what recorders noted of the events that are drawn, in files beside the streams. The \
+status is the same, and a file of notes that can't be read is left out.\n\n\
 With --max-time SECONDS the status is 6 if the run takes longer, and nothing is written to the standard output.\n\n\
 The formats are described in docs/SPECIFICATION.md. An example, at the top of the repository:\n  \
 crates/monitor/out/monitor draw examples/ten-lines/session.json examples/ten-lines/left.stream \

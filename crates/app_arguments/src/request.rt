@@ -17,7 +17,7 @@ pub struct SessionNames<'a> {
     pub streams: Vec<&'a str>,
     /// What is asked beside the document.
     pub options: Options<'a>,
-    /// Of files of notes on events, in their order, of which an explanation says what they say.
+    /// Of files of notes on events, in their order, of which an explanation or a picture says what they say.
     pub notes: Vec<&'a str>,
 }
 

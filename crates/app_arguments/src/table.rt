@@ -432,6 +432,19 @@ fn notes() -> Row
     )
 }
 
+/// Files of notes for a picture.
+fn shown_notes() -> Row
+    ensures { row_view result ≡ notes }
+{
+    option(
+        "NOTES",
+        "notes",
+        ArgumentKind::Texts,
+        "A file of notes on events, as recorders write them beside a stream, which stand below the events' dots; given \
+again, one more",
+    )
+}
+
 /// Files of notes for an explanation.
 fn explained_notes() -> Row
     ensures { row_view result ≡ notes }
@@ -502,7 +515,7 @@ pub(crate) fn check_arguments() -> [Row; 7]
 }
 
 /// What `draw` takes, in the order of its help.
-pub(crate) fn draw_arguments() -> [Row; 10]
+pub(crate) fn draw_arguments() -> [Row; 11]
     ensures { map row_view result ≡ draw_arguments }
 {
     [
@@ -516,6 +529,7 @@ pub(crate) fn draw_arguments() -> [Row; 10]
         evidence(),
         from(),
         all(),
+        shown_notes(),
     ]
 }
 

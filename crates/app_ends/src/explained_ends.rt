@@ -4,7 +4,7 @@ ghost use Rattle.app_ends.specs.Shown.{AreRowsOrText};
 use super::explained_answers::put_answers;
 use super::reasons::put_reasons;
 use super::seen_files::{seen_document, seen_file, seen_streams};
-use super::seen_notes::notes_of;
+use super::seen_notes::{DrawnNotes, notes_of};
 use super::seen_parts::{document_of, parts_of, streams_of};
 use super::unknown_names::{put_unknown_condition, put_unknown_wish};
 use app_arguments::{Judgement, PageOptions, SessionNames};
@@ -20,6 +20,7 @@ use judge_draw::DrawOutcome;
 use judge_session::EngineFault;
 use out_picture::DrawOptions;
 use pd_report::{Refusal, Report};
+use read_notes::EventNotes;
 use std::alloc::{AllocError, Global};
 use std::random::RandomSource;
 use std::sync::Wait;
@@ -297,6 +298,25 @@ pub fn exploration_text<Y: System>(
     rows_of(world.alloc, out)
 }
 
+/// Explains why the session in files is refused, with what was noted of its events.
+fn put_noted_refusal<Y: System>(
+    out: &mut Vec<u8>,
+    world: &World<'_, Y>,
+    names: &SessionNames<'_>,
+    notes: Option<&EventNotes>,
+    refusal: &Refusal,
+) -> Result<(), AllocError> {
+    let streams = seen_streams(world.alloc, world.notes, &names.streams)?;
+    let seen = Seen {
+        document: seen_document(world.notes, names.spec),
+        options: Some(&names.options),
+        streams: &streams,
+        order: "",
+        notes,
+    };
+    explain_refusal(out, world.alloc, seen, refusal)
+}
+
 /// Explains why the session in files is refused, and then what can't be read of notes.
 fn put_refusal<Y: System>(
     out: &mut Vec<u8>,
@@ -304,17 +324,9 @@ fn put_refusal<Y: System>(
     names: &SessionNames<'_>,
     refusal: &Refusal,
 ) -> Result<(), AllocError> {
-    let streams = seen_streams(world.alloc, world.notes, &names.streams)?;
     let mut unread = Vec::new(world.alloc);
     let notes = notes_of(&mut unread, world, names);
-    let seen = Seen {
-        document: seen_document(world.notes, names.spec),
-        options: Some(&names.options),
-        streams: &streams,
-        order: "",
-        notes: notes.as_ref(),
-    };
-    explain_refusal(out, world.alloc, seen, refusal)?;
+    put_noted_refusal(out, world, names, notes.as_ref(), refusal)?;
     out.extend_from_slice(&unread)
 }
 
@@ -555,12 +567,13 @@ fn put_refused_drawing<Y: System>(
     out: &mut Vec<u8>,
     world: &World<'_, Y>,
     names: &SessionNames<'_>,
+    notes: Option<&EventNotes>,
     refusal: &Refusal,
 ) -> Result<(), AllocError> {
     if put_report_as_stream(out, world, &names.streams)? {
         return Ok(());
     }
-    put_refusal(out, world, names, refusal)
+    put_noted_refusal(out, world, names, notes, refusal)
 }
 
 /// Explains how a run that draws ended. The report that is due is there if it was drawn.
@@ -570,18 +583,38 @@ fn put_drawing<Y: System>(
     due: Option<&Report>,
     scope: &DrawOptions<'_>,
     names: &SessionNames<'_>,
+    notes: Option<&EventNotes>,
     end: &Result<DrawOutcome, EngineFault>,
 ) -> Result<(), AllocError> {
     match (end, due) {
         (Ok(DrawOutcome::NoPredicate), _) => put_undrawn(out, world, scope, names),
         (Ok(DrawOutcome::NoEvidence), _) => explain_no_evidence(out),
         (Ok(DrawOutcome::Refused(_)), Some(Report::Refused(refusal))) => {
-            put_refused_drawing(out, world, names, refusal)
+            put_refused_drawing(out, world, names, notes, refusal)
         }
         (Ok(DrawOutcome::Refused(_)), _) => explain_no_picture(out),
         (Ok(DrawOutcome::Written | DrawOutcome::CycleWritten), _) => Ok(()),
         (Err(EngineFault::Read), _) => put_undrawn_files(out, world, names),
         (Err(fault), _) => put_fault(out, world, None, names.spec, &names.streams, fault),
+    }
+}
+
+/// Explains how a run that draws ended, and then what can't be read of notes, if they were read.
+fn put_noted_drawing<Y: System>(
+    out: &mut Vec<u8>,
+    world: &World<'_, Y>,
+    due: Option<&Report>,
+    scope: &DrawOptions<'_>,
+    names: &SessionNames<'_>,
+    noted: &Result<DrawnNotes, AllocError>,
+    end: &Result<DrawOutcome, EngineFault>,
+) -> Result<(), AllocError> {
+    match noted {
+        Ok(noted) => {
+            put_drawing(out, world, due, scope, names, Some(&noted.notes), end)?;
+            out.extend_from_slice(&noted.unread)
+        }
+        Err(_) => put_drawing(out, world, due, scope, names, None, end),
     }
 }
 
@@ -592,11 +625,12 @@ pub fn drawing_text<Y: System>(
     due: Option<&Report>,
     scope: &DrawOptions<'_>,
     names: &SessionNames<'_>,
+    noted: &Result<DrawnNotes, AllocError>,
     end: &Result<DrawOutcome, EngineFault>,
 ) -> Vec<u8> {
     let mut out = Vec::new(world.alloc);
     if world.explain {
-        let _ = put_drawing(&mut out, world, due, scope, names, end);
+        let _ = put_noted_drawing(&mut out, world, due, scope, names, noted, end);
     }
     rows_of(world.alloc, out)
 }

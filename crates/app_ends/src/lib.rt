@@ -27,4 +27,5 @@ pub use explained_ends::{
 };
 pub use reasons::put_reasons;
 pub use seen_files::seen_document;
+pub use seen_notes::{DrawnNotes, notes_to_draw};
 pub use unknown_names::put_unknown_condition;

@@ -1,13 +1,13 @@
-//! Reads notes on events, of which an explanation says what they say.
+//! Reads notes on events, of which an explanation or a picture says what they say.
 //!
-//! They are read once the run has ended, and change nothing of how it ends: of a file that can't be read the
-//! explanation says why.
+//! For an explanation they are read once the run has ended, and for a picture before anything else is. They change
+//! nothing of how a run ends: of a file that can't be read the explanation says why.
 
 use app_arguments::SessionNames;
 use app_explain::{explain_file, explain_wrong_notes};
 use app_host::{Note, System, World, open_noted};
 use judge_session::{EngineFault, read_upto};
-use read_notes::{EventNotes, NOTES_BYTE_LIMIT};
+use read_notes::{EventNote, EventNotes, NOTES_BYTE_LIMIT};
 use std::alloc::{AllocError, Global};
 
 /// What is read of the file of this name, or as much of it as tells that it is too long.
@@ -62,6 +62,36 @@ fn read_notes<Y: System>(
     }
     explain_wrong_notes(out, &names.notes, &notes)?;
     Ok(notes)
+}
+
+/// What was noted of the events of a session that is to be drawn, and what an explanation says of its files of notes.
+#[derive(Drop)]
+pub struct DrawnNotes {
+    /// What was noted.
+    pub(crate) notes: EventNotes,
+    /// Which files can't be read, and which lines are no notes.
+    pub(crate) unread: Vec<u8>,
+}
+
+impl DrawnNotes {
+    /// The notes, in the order of the files and of their lines.
+    pub fn all(&self) -> &[EventNote] {
+        self.notes.all()
+    }
+}
+
+/// Reads what was noted of the events of the session in files that is to be drawn, by the files of notes that are named
+/// beside these.
+///
+/// # Errors
+/// Out of memory.
+pub fn notes_to_draw<Y: System>(
+    world: &World<'_, Y>,
+    names: &SessionNames<'_>,
+) -> Result<DrawnNotes, AllocError> {
+    let mut unread = Vec::new(world.alloc);
+    let notes = read_notes(&mut unread, world, names)?;
+    Ok(DrawnNotes { notes, unread })
 }
 
 /// What was noted of the events of the session in files, by the files of notes that are named beside these; nothing if

@@ -128,7 +128,8 @@ report_of_document files wishes folder inquiry document lefts report one not_ref
 -- of a document that is refused
 pub report_of_refused : {F : Type 0} (files : List ℕ → File) (wishes : List Condition) (folder : List ℕ)
     (inquiry : Inquiry) (fault : DocumentFault) (left : F → Source) (streams : List F) (report : Report)
-    → DocumentNotRefused → IsRefusedDocument inquiry fault → streams ≡ [] → IsTrueReportOfInputs inquiry (map left streams) report
+    → DocumentNotRefused → IsRefusedDocument inquiry fault → streams ≡ []
+    → IsTrueReportOfInputs inquiry (map left streams) report
     → IsReportOfInquiry files wishes folder inquiry report
 report_of_refused files wishes folder inquiry fault left streams report not_refused refused none given = record {
   inputs = [];

@@ -81,7 +81,8 @@ pub data IsOutcome (files : List ℕ → File) (options : Options) (wishes : Lis
       → IsOutcome files options wishes folder (Reported report)
 
 -- the run is that in this folder, with what comes of it
-abbrev pub IsRunIn : (files : List ℕ → File) (options : Options) (wishes : List Condition) (folder : List ℕ) → Run → Type 0
+abbrev pub IsRunIn : (files : List ℕ → File) (options : Options) (wishes : List Condition) (folder : List ℕ) → Run
+    → Type 0
 IsRunIn files options wishes folder run = (run.folder ≡ folder) × IsOutcome files options wishes folder run.outcome
 
 -- ---- the text

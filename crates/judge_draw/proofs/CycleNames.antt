@@ -14,8 +14,8 @@ use Rattle.def_format.specs.OtherTexts.{Finding}
 use Rattle.def_format.specs.Reports.{Cycle, NamedPlace, Refusal, Refused, Report}
 use Rattle.def_judgement.specs.Findings.{is_clean}
 use Rattle.pd_report.specs.Views.{named_place_view, named_places_view}
-use Rattle.out_svg.specs.declared.drawing.Drawing.{Drawing}
 use Rattle.out_picture.specs.declared.extent.Extent.{Extent}
+use Rattle.out_picture.specs.declared.label.NotedPicture.{NotedPicture}
 use Rattle.judge_draw.specs.Cycles.{IsCycleDrawn, IsOfProcess, IsRefusalDrawn, NamesProcesses, StatesCycle}
 use Rattle.judge_check.proofs.PathNames.{no_path}
 use Rattle.judge_check.specs.Found.{IsFoundOfRefused, of_refused_session}
@@ -68,21 +68,22 @@ anyway (Err e) P p = tt
 -- a picture of the cycle for which a session is refused
 pub refusal_drawn : {E : Type 0} (document : Document) (events : Computation) (pairs : List (Place × Place))
     (places : List NamedPlace) (refusal : Refusal) (extent : Extent) → refusal ≡ Cycle places
-    → (result : Result (Option Drawing) E)
+    → (result : Result (Option NotedPicture) E)
     → IfOk result (λ drawn. MatchOption drawn (¬ All (IsOfProcess document.names) places)
-    (IsCycleDrawn document events pairs places extent))
-    → IfOk result (λ drawn. IfSome drawn (IsRefusalDrawn document events pairs refusal extent))
-refusal_drawn document events pairs places refusal extent is (Ok (Some drawing)) drawn =
+    (λ picture. IsCycleDrawn document events pairs places extent picture.drawing))
+    → IfOk result (λ drawn. IfSome drawn (λ picture. IsRefusalDrawn document events pairs refusal extent
+    picture.drawing))
+refusal_drawn document events pairs places refusal extent is (Ok (Some picture)) drawn =
     record { places = places; is_cycle = is; drawn = drawn }
 refusal_drawn document events pairs places refusal extent is (Ok None) drawn = tt
 refusal_drawn document events pairs places refusal extent is (Err e) drawn = tt
 
 -- there is a picture of the cycle for which a session is refused, since its processes are there
 pub cycle_undrawn : {E : Type 0} (names : List ProcessNames) (claimed : Report) (places : List NamedPlace)
-    (refusal : Refusal) (P : Drawing → Type 0) → refusal ≡ Cycle places → NamesProcesses names refusal
-    → (result : Result (Option Drawing) E)
+    (refusal : Refusal) (P : NotedPicture → Type 0) → refusal ≡ Cycle places → NamesProcesses names refusal
+    → (result : Result (Option NotedPicture) E)
     → IfOk result (λ drawn. MatchOption drawn (¬ All (IsOfProcess names) places) P)
     → IfOk result (λ drawn. drawn ≡ None → ¬ StatesCycle claimed refusal)
-cycle_undrawn names claimed places refusal P is named (Ok (Some drawing)) drawn = λ none. absurd (cc)
+cycle_undrawn names claimed places refusal P is named (Ok (Some picture)) drawn = λ none. absurd (cc)
 cycle_undrawn names claimed places refusal P is named (Ok None) drawn = λ none states. drawn (named places is)
 cycle_undrawn names claimed places refusal P is named (Err e) drawn = tt

@@ -12,8 +12,8 @@ use Rattle.def_format.specs.Readings.{Trace}
 use Rattle.def_judgement.specs.Judgements.{recorded_of}
 use Rattle.out_picture.specs.Pictures.{IsPicture}
 use Rattle.out_picture.specs.declared.evidence.Evidence.{Evidence}
-use Rattle.out_svg.specs.declared.drawing.Drawing.{Drawing}
 use Rattle.out_picture.specs.declared.extent.Extent.{Extent}
+use Rattle.out_picture.specs.declared.label.NotedPicture.{NotedPicture}
 use Rattle.judge_draw.specs.Drawn.{IsPictureOf, process_names}
 
 -- what stands at a place of a list that is seen through a function
@@ -25,18 +25,19 @@ seen_at view xs ys i x same lt is =
     ∙ (slice_get-map view xs i ∙ ap (option_map view) (slice_get_read xs (length xs) i x refl there is))
 
 pub pictured : (document : Document) (traces : List Trace) (pairs : List (Place × Place)) (recorded : Recorded)
-    (ShowsIt : Evidence → List ℕ → Type 0) (result : Result Drawing AllocError) (evidence : Evidence) (title : List ℕ)
-    (extent : Extent) → recorded ≡ recorded_of document traces → ShowsIt evidence title
-    → IfOk result (IsPicture recorded.events pairs (process_names document) title evidence extent)
-    → IfOk result (IsPictureOf document traces pairs ShowsIt extent)
+    (ShowsIt : Evidence → List ℕ → Type 0) (result : Result NotedPicture AllocError) (evidence : Evidence)
+    (title : List ℕ) (extent : Extent) → recorded ≡ recorded_of document traces → ShowsIt evidence title
+    → IfOk result (λ picture. IsPicture recorded.events pairs (process_names document) title evidence extent
+    picture.drawing) → IfOk result (λ picture. IsPictureOf document traces pairs ShowsIt extent picture.drawing)
 pictured document traces pairs recorded ShowsIt result evidence title extent same shows is =
-    IfOk-weaker result (IsPicture recorded.events pairs (process_names document) title evidence extent)
-    (IsPictureOf document traces pairs ShowsIt extent)
-    (λ drawing picture. record {
+    IfOk-weaker result (λ given. IsPicture recorded.events pairs (process_names document) title evidence extent
+    given.drawing)
+    (λ given. IsPictureOf document traces pairs ShowsIt extent given.drawing)
+    (λ given picture. record {
       evidence = evidence;
       title = title;
       shows = shows;
       is_picture =
-          subst (λ (r : Recorded). IsPicture r.events pairs (process_names document) title evidence extent drawing) same
-          picture;
+          subst (λ (r : Recorded). IsPicture r.events pairs (process_names document) title evidence extent
+          given.drawing) same picture;
     }) is

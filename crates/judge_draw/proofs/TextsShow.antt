@@ -30,6 +30,7 @@ use Rattle.judge_draw.specs.declared.choice.Choice.{Choice}
 use Rattle.judge_draw.specs.declared.choice.Choice.TheVariants.{Alone, Of, Unknown, Lacking}
 use Rattle.judge_draw.specs.Shows.{HasCut, HasPath, IsEvidenceBy, IsEvidenceOf, ShowsRefusal, ShowsSession}
 use Rattle.judge_draw.proofs.FewProcesses.{few_processes}
+use Rattle.out_picture.proofs.NotesShown.{noted_cycle, noted_picture}
 use Rattle.out_picture.proofs.PicturesShow.{cycle_shows, picture_shows}
 
 -- ---- evidence
@@ -129,7 +130,7 @@ by_choice kind document traces answers Lacking evidence title shows = absurd sho
 
 -- the text of a picture shows its session and its evidence
 pub drawings_show : (inquiry : Inquiry) (report : List ℕ) (inputs : List Source) (scope : Scope) (text : List ℕ)
-    → IsDrawingTextOf inquiry report inputs scope text → ShowsSession inquiry report inputs scope text
+    → IsDrawingTextOf inquiry report inputs scope true text → ShowsSession inquiry report inputs scope text
 drawings_show inquiry report inputs scope text h =
     let is = h.is_picture in
     let drawn = is.drawn in
@@ -156,17 +157,19 @@ drawings_show inquiry report inputs scope text h =
       evidence = drawn.shows.evidence;
       is_evidence = by_choice scope.kind is.document is.traces drawn.answers (choice scope drawn.checked)
           drawn.shows.evidence drawn.shows.title drawn.shows.shows;
-      drawing = h.picture;
-      shows = picture_shows (events_of_traces is.traces) is.pairs (process_names is.document) drawn.shows.title
+      drawing = h.has_text.drawing;
+      shows = noted_picture true h.picture h.has_text.drawing h.has_text.adds (events_of_traces is.traces) is.pairs
+          (process_names is.document) drawn.shows.evidence scope.extent
+          (picture_shows (events_of_traces is.traces) is.pairs (process_names is.document) drawn.shows.title
           scope.extent h.picture
           (few_processes inquiry is.document is.streams is.held.results is.traces is.held.read is.held.are_results
-          is.held.joined) drawn.shows.evidence drawn.shows.is_picture;
-      is_text = h.is_text;
+          is.held.joined) drawn.shows.evidence drawn.shows.is_picture);
+      is_text = h.has_text.is_text;
     }
 
 -- the text of the picture of a cycle shows its session and its cycle
 pub cycles_show : (inquiry : Inquiry) (report : List ℕ) (inputs : List Source) (extent : Extent) (text : List ℕ)
-    → IsCycleTextOf inquiry report inputs extent text → ShowsRefusal inquiry report inputs extent text
+    → IsCycleTextOf inquiry report inputs extent true text → ShowsRefusal inquiry report inputs extent text
 cycles_show inquiry report inputs extent text h =
     let is = h.is_picture in
     let draws = is.draws in
@@ -187,10 +190,12 @@ cycles_show inquiry report inputs extent text h =
       refused = subst (IsTracesReport is.document is.traces) (ap Refused same) draws.refused;
       pairs = draws.pairs;
       are_pairs = draws.are_pairs;
-      drawing = h.picture;
-      shows = cycle_shows (events_of_traces is.traces) draws.pairs (process_names is.document)
+      drawing = h.has_text.drawing;
+      shows = noted_cycle true h.picture h.has_text.drawing h.has_text.adds (events_of_traces is.traces) draws.pairs
+          (process_names is.document) drawn.cycle extent
+          (cycle_shows (events_of_traces is.traces) draws.pairs (process_names is.document)
           (cycle_title draws.drawn.places) extent h.picture
           (few_processes inquiry is.document is.streams is.results is.traces is.is_document is.are_results is.joined)
-          drawn.cycle drawn.is_picture;
-      is_text = h.is_text;
+          drawn.cycle drawn.is_picture);
+      is_text = h.has_text.is_text;
     }

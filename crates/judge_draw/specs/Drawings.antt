@@ -1,5 +1,5 @@
 -- What is drawn by a document's bytes, a report's bytes and the streams that readers gave.
-use Rattle.std.specs.Prelude.{◌≡◌, ◌≢◌, ◌⊎◌, ℕ, true, List, length, Option, Some, Result, Ok, Err}
+use Rattle.std.specs.Prelude.{◌≡◌, ◌≢◌, ◌⊎◌, ℕ, Bool, true, List, length, Option, Some, Result, Ok, Err}
 use Rattle.std.specs.Io.KnownBytes.{Keeps}
 use Rattle.std.specs.List.{AllZip}
 use Rattle.def_model.specs.Events.{Place}
@@ -17,6 +17,7 @@ use Rattle.def_judgement.specs.Writes.{IsGivenAs, Whole, Writes, Source}
 use Rattle.judge_check.specs.Views.{finding_view}
 use Rattle.out_svg.specs.Svg.{drawing_text}
 use Rattle.out_svg.specs.declared.drawing.Drawing.{Drawing as Picture}
+use Rattle.out_picture.specs.Notes.{AddsNotes}
 use Rattle.out_picture.specs.Scopes.{Scope}
 use Rattle.out_picture.specs.declared.extent.Extent.{Extent}
 use Rattle.judge_draw.specs.Choices.{LacksEvidence, LacksName, stands_against}
@@ -65,7 +66,7 @@ DrawsTraces document traces claimed scope drawn.NoPredicate =
     DrawsFormed document traces claimed scope drawn.NoPredicate
 DrawsTraces document traces claimed scope drawn.NoEvidence = DrawsFormed document traces claimed scope drawn.NoEvidence
 DrawsTraces document traces claimed scope (drawn.Cycle picture) =
-    DrawsCycle document traces claimed scope.extent picture
+    DrawsCycle document traces claimed scope.extent picture.drawing
 
 -- the picture of the session that the streams hold which these sources gave, and of the report in these bytes
 pub record IsPictureOf (inquiry : Inquiry) (report : List ℕ) (inputs : List Source)
@@ -130,13 +131,13 @@ pub record LacksKind (inquiry : Inquiry) (report : List ℕ) (inputs : List Sour
 abbrev pub Draws : (inquiry : Inquiry) (report : List ℕ) (inputs : List Source)
     (scope : Scope) → Drawn → Type 0
 Draws inquiry report inputs scope (drawn.Picture picture) =
-    IsPictureOf inquiry report inputs scope picture
+    IsPictureOf inquiry report inputs scope picture.drawing
 Draws inquiry report inputs scope (drawn.Bad finding) =
     IsAgainst inquiry report inputs scope (finding_view finding)
 Draws inquiry report inputs scope drawn.NoPredicate = LacksPredicate inquiry report inputs scope
 Draws inquiry report inputs scope drawn.NoEvidence = LacksKind inquiry report inputs scope
 Draws inquiry report inputs scope (drawn.Cycle picture) =
-    IsPictureOfCycle inquiry report inputs scope.extent picture
+    IsPictureOfCycle inquiry report inputs scope.extent picture.drawing
 
 -- the same of any bytes that are this report
 abbrev pub DrawsOf : (inquiry : Inquiry) (claimed : Report) (inputs : List Source)
@@ -146,12 +147,18 @@ DrawsOf inquiry claimed inputs scope given =
 
 -- ---- what is written, and what is given
 
+-- the text of a picture, which has labels over its shapes if it is noted
+pub record IsTextWithNotes (is_noted : Bool) (picture : Picture) (text : List ℕ) : Type 0 where
+  pub drawing : Picture
+  pub adds : AddsNotes is_noted picture drawing
+  pub is_text : text ≡ drawing_text drawing
+
 -- the text of the picture
 pub record IsDrawingTextOf (inquiry : Inquiry) (report : List ℕ) (inputs : List Source)
-    (scope : Scope) (text : List ℕ) : Type 0 where
+    (scope : Scope) (is_noted : Bool) (text : List ℕ) : Type 0 where
   pub picture : Picture
   pub is_picture : IsPictureOf inquiry report inputs scope picture
-  pub is_text : text ≡ drawing_text picture
+  pub has_text : IsTextWithNotes is_noted picture text
 
 -- the text of what a check finds, which stands against a picture
 pub record IsRefusalTextOf (inquiry : Inquiry) (report : List ℕ) (inputs : List Source)
@@ -162,30 +169,30 @@ pub record IsRefusalTextOf (inquiry : Inquiry) (report : List ℕ) (inputs : Lis
 
 -- the text of the picture of a cycle
 pub record IsCycleTextOf (inquiry : Inquiry) (report : List ℕ) (inputs : List Source)
-    (extent : Extent) (text : List ℕ) : Type 0 where
+    (extent : Extent) (is_noted : Bool) (text : List ℕ) : Type 0 where
   pub picture : Picture
   pub is_picture : IsPictureOfCycle inquiry report inputs extent picture
-  pub is_text : text ≡ drawing_text picture
+  pub has_text : IsTextWithNotes is_noted picture text
 
 -- the text of one picture or of the other
 abbrev pub IsAnyTextOf : (inquiry : Inquiry) (report : List ℕ) (inputs : List Source)
-    (scope : Scope) → (text : List ℕ) → Type 0
-IsAnyTextOf inquiry report inputs scope text =
-    IsDrawingTextOf inquiry report inputs scope text
-    ⊎ IsCycleTextOf inquiry report inputs scope.extent text
+    (scope : Scope) (is_noted : Bool) → (text : List ℕ) → Type 0
+IsAnyTextOf inquiry report inputs scope is_noted text =
+    IsDrawingTextOf inquiry report inputs scope is_noted text
+    ⊎ IsCycleTextOf inquiry report inputs scope.extent is_noted text
 
 -- what is left on the output
 abbrev pub WritesPicture : (inquiry : Inquiry) (report : List ℕ) (inputs : List Source)
-    (scope : Scope) → Result DrawOutcome EngineFault → (old new : Option (List ℕ)) → Type 0
-WritesPicture inquiry report inputs scope (Ok Written) old new =
-    Writes (IsDrawingTextOf inquiry report inputs scope) Whole old new
-WritesPicture inquiry report inputs scope (Ok CycleWritten) old new =
-    Writes (IsCycleTextOf inquiry report inputs scope.extent) Whole old new
-WritesPicture inquiry report inputs scope (Ok (Refused text)) old new = Keeps old new
-WritesPicture inquiry report inputs scope (Ok NoPredicate) old new = Keeps old new
-WritesPicture inquiry report inputs scope (Ok NoEvidence) old new = Keeps old new
-WritesPicture inquiry report inputs scope (Err fault) old new =
-    Writes (IsAnyTextOf inquiry report inputs scope) (fault_end fault) old new
+    (scope : Scope) (is_noted : Bool) → Result DrawOutcome EngineFault → (old new : Option (List ℕ)) → Type 0
+WritesPicture inquiry report inputs scope is_noted (Ok Written) old new =
+    Writes (IsDrawingTextOf inquiry report inputs scope is_noted) Whole old new
+WritesPicture inquiry report inputs scope is_noted (Ok CycleWritten) old new =
+    Writes (IsCycleTextOf inquiry report inputs scope.extent is_noted) Whole old new
+WritesPicture inquiry report inputs scope is_noted (Ok (Refused text)) old new = Keeps old new
+WritesPicture inquiry report inputs scope is_noted (Ok NoPredicate) old new = Keeps old new
+WritesPicture inquiry report inputs scope is_noted (Ok NoEvidence) old new = Keeps old new
+WritesPicture inquiry report inputs scope is_noted (Err fault) old new =
+    Writes (IsAnyTextOf inquiry report inputs scope is_noted) (fault_end fault) old new
 
 -- what stands against the picture, if none is written
 abbrev pub ShowsEnd : (inquiry : Inquiry) (report : List ℕ) (inputs : List Source)

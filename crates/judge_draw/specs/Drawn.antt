@@ -14,6 +14,7 @@ use Rattle.out_svg.specs.declared.drawing.Drawing.{Drawing}
 use Rattle.out_picture.specs.Scopes.{Scope}
 use Rattle.out_picture.specs.declared.extent.Extent.{Extent}
 use Rattle.out_picture.specs.declared.kind.Kind.{Kind}
+use Rattle.out_picture.specs.declared.label.NotedPicture.{NotedPicture}
 use Rattle.judge_draw.specs.Choices.{LacksEvidence, LacksName, choice, stands_against}
 use Rattle.judge_draw.specs.Exhibits.{HasGoodEvidence, Shows, ShowsNothing, run_title, title_text}
 use Rattle.judge_draw.specs.declared.choice.Choice.{Choice}
@@ -91,13 +92,13 @@ pub record IsLacking (document : Document) (traces : List Trace) (messages : ℕ
 -- what comes of it: the picture, or what stands against it
 abbrev pub Comes : Document → List Trace → (pairs : List (Place × Place)) → (messages : ℕ) → Report → Scope → Drawn
     → Type 0
-Comes document traces pairs messages claimed scope (Picture drawing) =
-    IsDrawn document traces pairs messages claimed scope drawing
+Comes document traces pairs messages claimed scope (Picture picture) =
+    IsDrawn document traces pairs messages claimed scope picture.drawing
 Comes document traces pairs messages claimed scope (Bad finding) =
     IsUndrawn document traces messages claimed scope (finding_view finding)
 Comes document traces pairs messages claimed scope NoPredicate = IsUnknown document traces messages claimed scope
 Comes document traces pairs messages claimed scope NoEvidence = IsLacking document traces messages claimed scope
-Comes document traces pairs messages claimed scope (Cycle drawing) = ⊥
+Comes document traces pairs messages claimed scope (Cycle picture) = ⊥
 
 -- ---- on the way
 
@@ -124,10 +125,11 @@ IsGoodChoice document recorded answers Lacking = Unit {0}
 
 -- the picture by this choice; there is none of a predicate that isn't there
 abbrev pub IsChosenPicture : Document → List Trace → (pairs : List (Place × Place)) → List Answer → Scope → Choice
-    → Option Drawing → Type 0
+    → Option NotedPicture → Type 0
 IsChosenPicture document traces pairs answers scope chosen None = chosen ≡ Unknown
-IsChosenPicture document traces pairs answers scope chosen (Some drawing) =
-    IsPictureOf document traces pairs (ShowsChoice scope.kind document traces answers chosen) scope.extent drawing
+IsChosenPicture document traces pairs answers scope chosen (Some picture) =
+    IsPictureOf document traces pairs (ShowsChoice scope.kind document traces answers chosen) scope.extent
+    picture.drawing
 
 -- the report has these answers
 pub record IsJudged (claimed : Report) (answers : List Answer) : Type 0 where

@@ -19,8 +19,7 @@ use super::choice::{Choice, chosen, is_chosen_bad, is_lacking};
 use super::exhibit::{evidence_of, title_of};
 use super::run::Run;
 use judge_check::{Finding, find_formed};
-use out_picture::{DrawOptions, Evidence, Extent, picture};
-use out_svg::Drawing;
+use out_picture::{DrawOptions, Evidence, Extent, NotedPicture, picture};
 use pd_pred::Names;
 use pd_report::{Answer, Report};
 use std::alloc::{AllocError, Global};
@@ -29,7 +28,7 @@ use std::alloc::{AllocError, Global};
 #[derive(Drop)]
 pub enum Drawn {
     /// The picture.
-    Picture(Drawing),
+    Picture(NotedPicture),
     /// What the check finds, which stands against a picture.
     Bad(Finding),
     /// There is no predicate of the name that was asked for.
@@ -37,7 +36,7 @@ pub enum Drawn {
     /// There is no evidence of the kind that was asked for.
     NoEvidence,
     /// The picture of a session that is refused for a causal cycle.
-    Cycle(Drawing),
+    Cycle(NotedPicture),
 }
 
 /// Which predicate is drawn, unless what is found stands against the picture.
@@ -83,10 +82,10 @@ fn run_picture(
     title: &str,
     evidence: &Evidence,
     extent: Extent,
-) -> Result<Drawing, AllocError>
+) -> Result<NotedPicture, AllocError>
     requires read { IsRun run.now }
-    ensures { IfOk result (IsPicture run.now.computation.now.events (pairs_view run.now.pairs.now)
-        (process_names (document_view run.now.spec.now)) title.now evidence.now extent) }
+    ensures { IfOk result (λ picture. IsPicture run.now.computation.now.events (pairs_view run.now.pairs.now)
+        (process_names (document_view run.now.spec.now)) title.now evidence.now extent picture.drawing) }
 {
     let lanes = lane_names(alloc, run.spec.names())?;
     picture(
@@ -98,14 +97,16 @@ fn run_picture(
         title,
         evidence,
         extent,
+        run.labels,
     )
 }
 
 /// The picture of the run alone.
-fn draw_run(alloc: Global, run: &Run<'_, '_>, extent: Extent) -> Result<Drawing, AllocError>
+fn draw_run(alloc: Global, run: &Run<'_, '_>, extent: Extent) -> Result<NotedPicture, AllocError>
     requires read { IsRun run.now }
-    ensures { IfOk result (IsPictureOf (document_view run.now.spec.now) (traces_view run.now.traces.now)
-        (pairs_view run.now.pairs.now) (λ evidence title. ShowsNothing evidence × (title ≡ run_title)) extent) }
+    ensures { IfOk result (λ picture. IsPictureOf (document_view run.now.spec.now) (traces_view run.now.traces.now)
+        (pairs_view run.now.pairs.now) (λ evidence title. ShowsNothing evidence × (title ≡ run_title)) extent
+        picture.drawing) }
 {
     run_picture(alloc, run, "The run", &Evidence::Absent, extent)
 }
@@ -117,13 +118,13 @@ fn draw_predicate(
     answers: &[Answer],
     i: usize,
     scope: &DrawOptions<'_>,
-) -> Result<Drawing, AllocError>
+) -> Result<NotedPicture, AllocError>
     requires read { IsRun run.now }
     requires good { IsGoodAt (document_view run.now.spec.now) run.now.computation.now
         (map views.answer_view answers.now) i }
-    ensures { IfOk result (IsPictureOf (document_view run.now.spec.now) (traces_view run.now.traces.now)
+    ensures { IfOk result (λ picture. IsPictureOf (document_view run.now.spec.now) (traces_view run.now.traces.now)
         (pairs_view run.now.pairs.now) (ShowsPredicate scope.now.kind (document_view run.now.spec.now)
-        (traces_view run.now.traces.now) (map views.answer_view answers.now) i) scope.now.extent) }
+        (traces_view run.now.traces.now) (map views.answer_view answers.now) i) scope.now.extent picture.drawing) }
 {
     let spec = run.spec;
     let asked = &spec.predicates()[i];
@@ -147,7 +148,7 @@ fn draw_choice(
     answers: &[Answer],
     chosen: Choice,
     scope: &DrawOptions<'_>,
-) -> Result<Option<Drawing>, AllocError>
+) -> Result<Option<NotedPicture>, AllocError>
     requires read { IsRun run.now }
     requires there { chosen ≢ Lacking }
     requires good { IsGoodChoice (document_view run.now.spec.now) run.now.computation.now
@@ -158,12 +159,12 @@ fn draw_choice(
     match chosen {
         Choice::Unknown | Choice::Lacking => Ok(None),
         Choice::Alone => {
-            let drawing = draw_run(alloc, run, scope.extent)?;
-            Ok(Some(drawing))
+            let picture = draw_run(alloc, run, scope.extent)?;
+            Ok(Some(picture))
         }
         Choice::Of(i) => {
-            let drawing = draw_predicate(alloc, run, answers, i, scope)?;
-            Ok(Some(drawing))
+            let picture = draw_predicate(alloc, run, answers, i, scope)?;
+            Ok(Some(picture))
         }
     }
 }
@@ -193,7 +194,7 @@ fn draw_found(
         return Ok(Drawn::NoEvidence);
     }
     match draw_choice(alloc, run, answers, chosen, scope)? {
-        Some(drawing) => Ok(Drawn::Picture(drawing)),
+        Some(picture) => Ok(Drawn::Picture(picture)),
         None => Ok(Drawn::NoPredicate),
     }
 }

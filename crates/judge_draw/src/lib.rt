@@ -16,6 +16,7 @@
 //! - `choice`: which predicate is drawn
 //! - `values`: what a predicate's variables are worth
 //! - `exhibit`: the evidence that is drawn, and what the picture is called
+//! - `labels`: what is noted of the events of a session
 //! - `run`: the session that is drawn, as it has been read
 //! - `drawn`: the picture, or what stands against it
 //! - `refused`: the picture of a session that is refused for a causal cycle
@@ -26,6 +27,7 @@ mod choice;
 mod drawings;
 mod drawn;
 mod exhibit;
+mod labels;
 mod refused;
 mod run;
 mod session;

@@ -22,8 +22,7 @@ ghost use Rattle.std.specs.Prelude.{◌≡◌, ◌↔◌, ◌++◌, All, IfOk, I
 
 use super::drawn::lane_names;
 use judge_check::find_refused;
-use out_picture::{Extent, cycle_picture};
-use out_svg::Drawing;
+use out_picture::{EventLabel, Extent, NotedPicture, cycle_picture};
 use pd_clock::Place;
 use pd_pred::Names;
 use pd_report::{Refusal, Report};
@@ -114,13 +113,14 @@ fn run_picture(
     title: &str,
     cycle: &[Place],
     extent: Extent,
-) -> Result<Drawing, AllocError>
+    labels: &[EventLabel],
+) -> Result<NotedPicture, AllocError>
     requires { IsMessageList (computation_view traces.now) (pairs_view pairs.now) }
-    ensures { IfOk result (IsCyclePicture (computation_view traces.now) (pairs_view pairs.now)
-        (process_names (document_view spec.now)) title.now (places_view cycle.now) extent) }
+    ensures { IfOk result (λ picture. IsCyclePicture (computation_view traces.now) (pairs_view pairs.now)
+        (process_names (document_view spec.now)) title.now (places_view cycle.now) extent picture.drawing) }
 {
     let lanes = lane_names(alloc, spec.names())?;
-    cycle_picture(alloc, traces, pairs, &lanes, title, cycle, extent)
+    cycle_picture(alloc, traces, pairs, &lanes, title, cycle, extent, labels)
 }
 
 /// The picture of a run with this cycle, whose places are these by the names of their processes.
@@ -132,16 +132,17 @@ fn titled_picture(
     places: &[(String, u64)],
     cycle: &[Place],
     extent: Extent,
-) -> Result<Drawing, AllocError>
+    labels: &[EventLabel],
+) -> Result<NotedPicture, AllocError>
     requires messages { IsMessageList (computation_view traces.now) (pairs_view pairs.now) }
     requires named { map (named_place (document_view spec.now).names) (places_view cycle.now)
         ≡ views.named_places_view places.now }
-    ensures { IfOk result (IsCycleDrawn (document_view spec.now) (computation_view traces.now) (pairs_view pairs.now)
-        (views.named_places_view places.now) extent) }
+    ensures { IfOk result (λ picture. IsCycleDrawn (document_view spec.now) (computation_view traces.now)
+        (pairs_view pairs.now) (views.named_places_view places.now) extent picture.drawing) }
 {
     let title = cycle_title(alloc, places)?;
-    let drawing = run_picture(alloc, spec, traces, pairs, &title, cycle, extent)?;
-    Ok(drawing)
+    let picture = run_picture(alloc, spec, traces, pairs, &title, cycle, extent, labels)?;
+    Ok(picture)
 }
 
 /// The picture of a run with the cycle of these places, if there are such processes.
@@ -152,18 +153,21 @@ fn draw_places(
     pairs: &[(Place, Place)],
     places: &[(String, u64)],
     extent: Extent,
-) -> Result<Option<Drawing>, AllocError>
+    labels: &[EventLabel],
+) -> Result<Option<NotedPicture>, AllocError>
     requires { IsMessageList (computation_view traces.now) (pairs_view pairs.now) }
     ensures { IfOk result (λ drawn. MatchOption drawn
         (¬ All (IsOfProcess (document_view spec.now).names) (views.named_places_view places.now))
-        (IsCycleDrawn (document_view spec.now) (computation_view traces.now) (pairs_view pairs.now)
-        (views.named_places_view places.now) extent)) }
+        (λ picture. IsCycleDrawn (document_view spec.now) (computation_view traces.now) (pairs_view pairs.now)
+        (views.named_places_view places.now) extent picture.drawing)) }
 {
     let found = cycle_of(alloc, spec.names(), places)?;
     match found {
         Some(cycle) => {
-            let drawing = titled_picture(alloc, spec, traces, pairs, places, &cycle, extent)?;
-            Ok(Some(drawing))
+            let picture = titled_picture(
+                alloc, spec, traces, pairs, places, &cycle, extent, labels,
+            )?;
+            Ok(Some(picture))
         }
         None => Ok(None),
     }
@@ -182,11 +186,13 @@ pub fn draw_cycle(
     pairs: &[(Place, Place)],
     refusal: &Refusal,
     extent: Extent,
-) -> Result<Option<Drawing>, AllocError>
+    labels: &[EventLabel],
+) -> Result<Option<NotedPicture>, AllocError>
     requires messages { IsMessageList (computation_view traces.now) (pairs_view pairs.now) }
     requires named { NamesProcesses (document_view spec.now).names (views.refusal_view refusal.now) }
-    ensures drawn { IfOk result (λ drawn. IfSome drawn (IsRefusalDrawn (document_view spec.now)
-        (computation_view traces.now) (pairs_view pairs.now) (views.refusal_view refusal.now) extent)) }
+    ensures drawn { IfOk result (λ drawn. IfSome drawn (λ picture. IsRefusalDrawn (document_view spec.now)
+        (computation_view traces.now) (pairs_view pairs.now) (views.refusal_view refusal.now) extent
+        picture.drawing)) }
     ensures claimed { IfOk result (λ drawn. IfSome drawn (λ _.
         views.report_view claimed.now ≡ reports.Refused (views.refusal_view refusal.now))) }
     // There is no picture exactly if the session is refused for something else, or the report says something else.
@@ -197,7 +203,9 @@ pub fn draw_cycle(
         return Ok(None);
     }
     match refusal {
-        Refusal::Cycle(places) => draw_places(alloc, spec, traces, pairs, places, extent),
+        Refusal::Cycle(places) => {
+            draw_places(alloc, spec, traces, pairs, places, extent, labels)
+        }
         _ => Ok(None),
     }
 }

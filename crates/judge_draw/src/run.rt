@@ -1,4 +1,5 @@
 //! A session that has been read, of which a picture is drawn.
+use out_picture::EventLabel;
 use pd_clock::{Computation, Place};
 use pd_spec::Spec;
 use read_traces::Trace;
@@ -14,4 +15,6 @@ pub struct Run<'a, 'b> {
     pub traces: &'a [Trace],
     /// The messages, each as the places of its send and of its receipt.
     pub pairs: &'a [(Place, Place)],
+    /// What is noted of its events.
+    pub labels: &'a [EventLabel],
 }

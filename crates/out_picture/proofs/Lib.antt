@@ -15,3 +15,4 @@ pub mod LanesNamed
 pub mod RunShown
 pub mod CycleShown
 pub mod PicturesShow
+pub mod NotesShown

@@ -10,3 +10,4 @@ pub mod Cycles
 pub mod CycleTables
 pub mod Scopes
 pub mod Shown
+pub mod Notes

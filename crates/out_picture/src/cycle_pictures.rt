@@ -18,6 +18,8 @@ use super::ends::push_ends;
 use super::extent::Extent;
 use super::flights::push_flights;
 use super::headings::{cycle_description, cycle_legend, push_headings};
+use super::label::{EventLabel, NotedPicture};
+use super::labels::shown_labels;
 use super::lanes::push_lanes;
 use super::messages::push_messages;
 use super::pictures::page_width;
@@ -105,19 +107,20 @@ fn all_shapes(
     Ok(shapes)
 }
 
-/// The picture of a run whose events have these columns.
+/// The picture of a run whose events have these columns, and those labels that stand at events that are shown.
 fn drawn_cycle(
     alloc: Global,
     rows: &[Vec<u32>],
     subject: &Refused<'_>,
-) -> Result<Drawing, AllocError>
+    labels: &[EventLabel],
+) -> Result<NotedPicture, AllocError>
     requires table { IsCycleTable (computation_view subject.now.traces.now) (places_view subject.now.cycle.now)
         rows.now }
     requires messages { IsMessageList (computation_view subject.now.traces.now)
         (pairs_view subject.now.messages.now) }
-    ensures { IfOk result (IsCyclePicture (computation_view subject.now.traces.now)
+    ensures { IfOk result (λ picture. IsCyclePicture (computation_view subject.now.traces.now)
         (pairs_view subject.now.messages.now) (texts_view subject.now.names.now) subject.now.title.now
-        (places_view subject.now.cycle.now) subject.now.extent) }
+        (places_view subject.now.cycle.now) subject.now.extent picture.drawing) }
 {
     let widest = cycle_widest(rows, subject.traces, subject.cycle);
     let focus = kept_column(cycle_focus(subject.cycle));
@@ -126,18 +129,21 @@ fn drawn_cycle(
     let shapes = all_shapes(alloc, window, widest, rows, subject)?;
     let title = String::from_str(alloc, subject.title)?;
     let description = cycle_description(alloc, window, widest)?;
-    Ok(Drawing {
+    let drawing = Drawing {
         width,
         height: lane_y(subject.traces.len()) - 30,
         title,
         description,
         shapes,
-    })
+    };
+    let labels = shown_labels(alloc, window, rows, labels)?;
+    Ok(NotedPicture { drawing, labels })
 }
 
 /// The picture of a run in which there is a causal cycle, given as the receipts that are on it: a line for each process
 /// with its events in order, an arrow for each message, and the cycle marked. An event stands by its number, and the
-/// processes are moved against each other so that the events of the cycle stand in one column.
+/// processes are moved against each other so that the events of the cycle stand in one column. What is noted of events
+/// that are shown is given as labels beside the picture.
 ///
 /// # Errors
 /// Out of memory.
@@ -149,10 +155,11 @@ pub fn cycle_picture(
     title: &str,
     cycle: &[Place],
     extent: Extent,
-) -> Result<Drawing, AllocError>
+    labels: &[EventLabel],
+) -> Result<NotedPicture, AllocError>
     requires { IsMessageList (computation_view traces.now) (pairs_view messages.now) }
-    ensures { IfOk result (IsCyclePicture (computation_view traces.now) (pairs_view messages.now)
-        (texts_view names.now) title.now (places_view cycle.now) extent) }
+    ensures { IfOk result (λ picture. IsCyclePicture (computation_view traces.now) (pairs_view messages.now)
+        (texts_view names.now) title.now (places_view cycle.now) extent picture.drawing) }
 {
     let rows = cycle_columns(alloc, traces, cycle)?;
     let subject = Refused {
@@ -163,5 +170,5 @@ pub fn cycle_picture(
         cycle,
         extent,
     };
-    drawn_cycle(alloc, &rows, &subject)
+    drawn_cycle(alloc, &rows, &subject, labels)
 }

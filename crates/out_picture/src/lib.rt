@@ -29,6 +29,8 @@
 //! - `cycle_marks`: the marks of a causal cycle
 //! - `cycle_pictures`: the picture of a run in which there is a causal cycle
 //! - `kind`: the kinds of evidence
+//! - `label`: what is noted of events, and the picture that it may stand in
+//! - `labels`: what is noted of events, below their dots
 //! - `extent`: how much of a run is shown
 //! - `draw_options`: all that is asked of a picture
 #![tactic(auto)]
@@ -46,6 +48,8 @@ mod extent;
 mod flights;
 mod headings;
 mod kind;
+mod label;
+mod labels;
 mod lanes;
 mod messages;
 mod pictures;
@@ -63,4 +67,6 @@ pub use draw_options::DrawOptions;
 pub use evidence::Evidence;
 pub use extent::Extent;
 pub use kind::Kind;
+pub use label::{EventLabel, NotedPicture};
+pub use labels::with_labels;
 pub use pictures::picture;

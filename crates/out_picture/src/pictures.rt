@@ -17,6 +17,8 @@ use super::ends::push_ends;
 use super::extent::Extent;
 use super::flights::push_flights;
 use super::headings::{description, legend, push_headings};
+use super::label::{EventLabel, NotedPicture};
+use super::labels::shown_labels;
 use super::lanes::push_lanes;
 use super::messages::push_messages;
 use super::rooms::{names_room, title_room, values_room};
@@ -180,14 +182,20 @@ fn all_shapes(
     Ok(shapes)
 }
 
-/// The picture of a run whose events have these columns.
-fn drawn(alloc: Global, rows: &[Vec<u32>], subject: &Subject<'_, '_>) -> Result<Drawing, AllocError>
+/// The picture of a run whose events have these columns, and those labels that stand at events that are shown.
+fn drawn(
+    alloc: Global,
+    rows: &[Vec<u32>],
+    subject: &Subject<'_, '_>,
+    labels: &[EventLabel],
+) -> Result<NotedPicture, AllocError>
     requires columns { AreColumns subject.now.computation.now.events (column_at rows.now) }
     requires table { IsTable subject.now.computation.now.events rows.now }
     requires traces { computation_view subject.now.traces.now ≡ subject.now.computation.now.events }
     requires messages { IsMessageList subject.now.computation.now.events (pairs_view subject.now.messages.now) }
-    ensures { IfOk result (IsPicture subject.now.computation.now.events (pairs_view subject.now.messages.now)
-        (texts_view subject.now.names.now) subject.now.title.now subject.now.evidence.now subject.now.extent) }
+    ensures { IfOk result (λ picture. IsPicture subject.now.computation.now.events
+        (pairs_view subject.now.messages.now) (texts_view subject.now.names.now) subject.now.title.now
+        subject.now.evidence.now subject.now.extent picture.drawing) }
 {
     let computation = subject.computation;
     let evidence = subject.evidence;
@@ -198,19 +206,22 @@ fn drawn(alloc: Global, rows: &[Vec<u32>], subject: &Subject<'_, '_>) -> Result<
     let shapes = all_shapes(alloc, window, widest, rows, subject)?;
     let title = String::from_str(alloc, subject.title)?;
     let description = description(alloc, window, widest, computation, subject.names, evidence)?;
-    Ok(Drawing {
+    let drawing = Drawing {
         width,
         height: lane_y(computation.processes()) - 30,
         title,
         description,
         shapes,
-    })
+    };
+    let labels = shown_labels(alloc, window, rows, labels)?;
+    Ok(NotedPicture { drawing, labels })
 }
 
 /// The picture of a run: a line for each process with its events in order, an arrow for each message from its send to
 /// each of its receipts, and the evidence. The traces and the messages, as pairs of a send and a receipt, are those of
 /// the computation, and the names those of its processes. An event's column is the length of the longest chain that
-/// ends in it. Those columns are shown that are asked for, and the picture says which, if not all are.
+/// ends in it. Those columns are shown that are asked for, and the picture says which, if not all are. What is noted of
+/// events that are shown is given as labels beside the picture.
 ///
 /// # Errors
 /// Out of memory.
@@ -223,11 +234,12 @@ pub fn picture(
     title: &str,
     evidence: &Evidence,
     extent: Extent,
-) -> Result<Drawing, AllocError>
+    labels: &[EventLabel],
+) -> Result<NotedPicture, AllocError>
     requires traces { computation_view traces.now ≡ computation.now.events }
     requires messages { IsMessageList computation.now.events (pairs_view messages.now) }
-    ensures { IfOk result (IsPicture computation.now.events (pairs_view messages.now) (texts_view names.now) title.now
-        evidence.now extent) }
+    ensures { IfOk result (λ picture. IsPicture computation.now.events (pairs_view messages.now)
+        (texts_view names.now) title.now evidence.now extent picture.drawing) }
 {
     let rows = columns(alloc, computation)?;
     let subject = Subject {
@@ -239,5 +251,5 @@ pub fn picture(
         evidence,
         extent,
     };
-    drawn(alloc, &rows, &subject)
+    drawn(alloc, &rows, &subject, labels)
 }

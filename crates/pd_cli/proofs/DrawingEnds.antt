@@ -1,5 +1,5 @@
 -- What a run that draws leaves by the bytes that were read, before and after the flush.
-use Rattle.std.proofs.Common.{◌≡◌, ◌⊎◌, ◌∙◌, ℕ, List, sym, subst, Some, None, Option, Ok, Err, inl, inr}
+use Rattle.std.proofs.Common.{◌≡◌, ◌⊎◌, ◌∙◌, ℕ, List, sym, subst, Some, None, Option, Ok, Err, inl, inr, true}
 use Rattle.std.specs.Prelude.{Result}
 use Rattle.std.specs.Io.KnownBytes.{Keeps}
 use Rattle.def_format.specs.Documents.{Inquiry}
@@ -26,7 +26,7 @@ module _ (document : Inquiry) (report : List ℕ) (inputs : List Source) (scope 
 
   -- the call failed
   pub drawing_failed : (fault : EngineFault) (old new : Option (List ℕ)) → (fault ≡ Memory) ⊎ (fault ≡ Write)
-      → WritesPicture document report inputs scope (Err fault) old new
+      → WritesPicture document report inputs scope true (Err fault) old new
       → Leaves (Err fault) old new
   drawing_failed Memory old new is written = written
   drawing_failed Write old new is written = inr written
@@ -38,7 +38,7 @@ module _ (document : Inquiry) (report : List ℕ) (inputs : List Source) (scope 
   -- the call came to an end, and then the output was flushed
   pub drawing_finished : (drawing : DrawOutcome) (result : Result DrawOutcome EngineFault)
       (old middle new : Option (List ℕ))
-      → WritesPicture document report inputs scope (Ok drawing) old middle
+      → WritesPicture document report inputs scope true (Ok drawing) old middle
       → ShowsEnd document report inputs scope drawing → Finishes drawing result middle new
       → Leaves result old new
   drawing_finished Written result old middle new written shows (inl is, keeps) =

@@ -1,5 +1,5 @@
 -- A report that is drawn by what readers have left is drawn by all that their files hold.
-use Rattle.std.proofs.Common.{ℕ, List, Option, Ok, Err, inl, inr}
+use Rattle.std.proofs.Common.{ℕ, List, Option, Ok, Err, inl, inr, true}
 use Rattle.std.specs.Prelude.{Result}
 use Rattle.std.specs.List.{AllZip}
 use Rattle.def_format.specs.Documents.{Options, inquiry_of}
@@ -18,8 +18,8 @@ use Rattle.app_host.proofs.FilesRead.{given_as_files, report_text_of_files, up_t
 
 module _ (options : Options) (read document report : List ℕ) (files lefts : List Source) (scope : Scope)
     (same : SameOutline options read document) (are : AllZip Knows files lefts) where
-  drawing_of_files : (text : List ℕ) → IsDrawingTextOf (inquiry_of options read) report lefts scope text
-      → IsDrawingTextOf (inquiry_of options document) report files scope text
+  drawing_of_files : (text : List ℕ) → IsDrawingTextOf (inquiry_of options read) report lefts scope true text
+      → IsDrawingTextOf (inquiry_of options document) report files scope true text
   drawing_of_files text h =
       let is = h.is_picture in record {
         picture = h.picture;
@@ -36,11 +36,11 @@ module _ (options : Options) (read document report : List ℕ) (files lefts : Li
           read = is.read;
           drawn = is.drawn;
         };
-        is_text = h.is_text;
+        has_text = h.has_text;
       }
 
-  cycle_of_files : (text : List ℕ) → IsCycleTextOf (inquiry_of options read) report lefts scope.extent text
-      → IsCycleTextOf (inquiry_of options document) report files scope.extent text
+  cycle_of_files : (text : List ℕ) → IsCycleTextOf (inquiry_of options read) report lefts scope.extent true text
+      → IsCycleTextOf (inquiry_of options document) report files scope.extent true text
   cycle_of_files text h =
       let is = h.is_picture in record {
         picture = h.picture;
@@ -57,11 +57,11 @@ module _ (options : Options) (read document report : List ℕ) (files lefts : Li
           read = is.read;
           draws = is.draws;
         };
-        is_text = h.is_text;
+        has_text = h.has_text;
       }
 
-  any_of_files : (text : List ℕ) → IsAnyTextOf (inquiry_of options read) report lefts scope text
-      → IsAnyTextOf (inquiry_of options document) report files scope text
+  any_of_files : (text : List ℕ) → IsAnyTextOf (inquiry_of options read) report lefts scope true text
+      → IsAnyTextOf (inquiry_of options document) report files scope true text
   any_of_files text (inl h) = inl (drawing_of_files text h)
   any_of_files text (inr h) = inr (cycle_of_files text h)
 

@@ -1,5 +1,5 @@
 -- What a run that draws leaves by the exact texts of pictures is what it leaves by what they show.
-use Rattle.std.proofs.Common.{◌⊎◌, ℕ, List, [], ◌∷◌, ◌++◌, Option, Ok, Err, inl, inr}
+use Rattle.std.proofs.Common.{◌⊎◌, ℕ, List, [], ◌∷◌, ◌++◌, Option, Ok, Err, inl, inr, true}
 use Rattle.std.specs.Prelude.{IsOkAnd, Result}
 use Rattle.std.specs.Io.KnownBytes.{Keeps}
 use Rattle.app_arguments.specs.Statuses.{File, OfDocument}
@@ -18,7 +18,7 @@ use Rattle.pd_cli.specs.Drawings.{DrawLeaves, DrawsDue, DrawsReport, EndsDrawn, 
 use Rattle.pd_cli.specs.ShownDrawings.{EndsShown, OfClaimShown, OfFilesShown, OfOwnShown, ShowsReport}
 
 any_shown : (inquiry : Inquiry) (report : List ℕ) (streams : List Source) (scope : Scope) (text : List ℕ)
-    → IsAnyTextOf inquiry report streams scope text → ShowsAny inquiry report streams scope text
+    → IsAnyTextOf inquiry report streams scope true text → ShowsAny inquiry report streams scope text
 any_shown inquiry report streams scope text (inl session) =
     inl (drawings_show inquiry report streams scope text session)
 any_shown inquiry report streams scope text (inr cycle) =

@@ -1,5 +1,5 @@
 -- What a run that draws leaves on its output and on its errors.
-use Rattle.std.specs.Prelude.{◌≡◌, ◌≤◌, ◌⊎◌, ℕ, false, All, List, [], ◌∷◌, ◌++◌, codes, length, map, Option, Some, Result, Ok, Err, IsOkAnd}
+use Rattle.std.specs.Prelude.{◌≡◌, ◌≤◌, ◌⊎◌, ℕ, false, true, All, List, [], ◌∷◌, ◌++◌, codes, length, map, Option, Some, Result, Ok, Err, IsOkAnd}
 use Rattle.std.specs.Io.KnownBytes.{Keeps}
 use Rattle.def_format.specs.Documents.{Document, Inquiry, IsDocument, Options}
 use Rattle.def_format.specs.Limits.{report_byte_limit, stream_byte_limit}
@@ -31,14 +31,15 @@ abbrev pub IsRefusedBy : (text : List ℕ) → DrawOutcome → Type 0
 IsRefusedBy text (Refused notice) = notice.items ≡ text
 IsRefusedBy text _ = ⊥
 
--- The picture is written of a document, a report in these bytes and streams, that of a cycle too: its whole text. The
--- output fails: that text or a prefix of it. Something stands against the picture: nothing.
+-- The picture is written of a document, a report in these bytes and streams, that of a cycle too: its whole text, with
+-- labels if there are notes. The output fails: that text or a prefix of it. Something stands against the picture:
+-- nothing.
 abbrev pub DrawsReport : (report : List ℕ) (streams : List Source) (scope : Scope) → Inquiry
     → Result DrawOutcome EngineFault → (old new : Option (List ℕ)) → Type 0
 DrawsReport report streams scope inquiry (Ok Written) old new =
-    Writes (IsDrawingTextOf inquiry report streams scope) Whole old new
+    Writes (IsDrawingTextOf inquiry report streams scope true) Whole old new
 DrawsReport report streams scope inquiry (Ok CycleWritten) old new =
-    Writes (IsCycleTextOf inquiry report streams scope.extent) Whole old new
+    Writes (IsCycleTextOf inquiry report streams scope.extent true) Whole old new
 DrawsReport report streams scope inquiry (Ok (Refused notice)) old new =
     IsNoticeOf inquiry report streams scope notice.items × Keeps old new
 DrawsReport report streams scope inquiry (Ok NoPredicate) old new =
@@ -46,7 +47,7 @@ DrawsReport report streams scope inquiry (Ok NoPredicate) old new =
 DrawsReport report streams scope inquiry (Ok NoEvidence) old new =
     LacksKind inquiry report streams scope × Keeps old new
 DrawsReport report streams scope inquiry (Err Write) old new =
-    WritesUpTo (IsAnyTextOf inquiry report streams scope) old new
+    WritesUpTo (IsAnyTextOf inquiry report streams scope true) old new
 DrawsReport report streams scope inquiry _ old new = ⊥
 
 -- All of this source can surely be read, and it isn't more than this many bytes.

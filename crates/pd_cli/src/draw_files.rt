@@ -11,6 +11,7 @@ use super::draw_own::draw_own;
 use super::draw_report::draw_report;
 use super::whole_files::read_whole;
 use app_arguments::SessionNames;
+use app_ends::DrawnNotes;
 use app_host::{
     MISUSED, REFUSED, SUCCESS, System, World, is_out_of_memory, read_session, report_fault,
     write_line,
@@ -22,7 +23,8 @@ use judge_session::EngineFault;
 use out_picture::DrawOptions;
 use pd_engine::{ByteSource, Inquiry, Report};
 use pd_spec::Spec;
-use std::alloc::Global;
+use read_notes::EventNote;
+use std::alloc::{AllocError, Global};
 use std::io::Write;
 
 /// Whether this many files beside a document are streams alone: as many as it has processes are, and so is one.
@@ -64,6 +66,7 @@ fn draw_claim<Y: System, R: ByteSource + Send + Drop, O: Write>(
     inquiry: Inquiry<'_, '_, '_>,
     files: Vec<R>,
     scope: &DrawOptions<'_>,
+    notes: &[EventNote],
     output: &mut O,
 ) -> Result<DrawOutcome, EngineFault>
     requires some { 0 < vec_len files }
@@ -74,7 +77,7 @@ fn draw_claim<Y: System, R: ByteSource + Send + Drop, O: Write>(
     let mut streams = files;
     let report = streams.remove(0);
     let report = read_whole(world.alloc, report, REPORT_BYTE_LIMIT)?;
-    draw_report(world, inquiry, &report, streams, scope, output)
+    draw_report(world, inquiry, &report, streams, scope, notes, output)
 }
 
 /// Draws a document, with what is asked, and these files: the report that is due, if they are streams alone, and else
@@ -88,6 +91,7 @@ fn draw_session<Y: System, R: ByteSource + Send + Drop, O: Write>(
     inquiry: Inquiry<'_, '_, '_>,
     files: Vec<R>,
     scope: &DrawOptions<'_>,
+    notes: &[EventNote],
     due: &mut Option<Report>,
     output: &mut O,
 ) -> Result<DrawOutcome, EngineFault>
@@ -96,23 +100,24 @@ fn draw_session<Y: System, R: ByteSource + Send + Drop, O: Write>(
         result (O.contents output.old) (O.contents output.new) }
 {
     if are_streams(world.alloc, inquiry, files.len())? {
-        return draw_own(world, inquiry, files, scope, due, output);
+        return draw_own(world, inquiry, files, scope, notes, due, output);
     }
-    draw_claim(world, inquiry, files, scope, output)
+    draw_claim(world, inquiry, files, scope, notes, output)
 }
 
 /// Opens the files of a picture, the document and then the others, reads the document, draws it, with what is asked,
-/// and the other files, writes the picture, and flushes the output. All files are opened before one is read. The report
-/// that is due is put into `due` if it is drawn.
+/// and the other files, writes the picture, with these notes, and flushes the output. All files are opened before one
+/// is read. The report that is due is put into `due` if it is drawn.
 ///
 /// # Errors
 /// `Read`, if a file can't be opened, or the document or, of the others, a report or a stream without a report can't be
 /// read or has too many bytes, and `Memory` leave nothing written. `Write` leaves a part of the picture written, or all
 /// of it if only the flush failed.
-pub(crate) fn draw_files<Y: System, O: Write>(
+fn draw_files<Y: System, O: Write>(
     world: &World<'_, Y>,
     scope: &DrawOptions<'_>,
     names: &SessionNames<'_>,
+    notes: &[EventNote],
     due: &mut Option<Report>,
     output: &mut O,
 ) -> Result<DrawOutcome, EngineFault>
@@ -130,9 +135,35 @@ pub(crate) fn draw_files<Y: System, O: Write>(
                 document: &read.document,
                 options: &names.options,
             };
-            draw_session(world, inquiry, files, scope, due, output)
+            draw_session(world, inquiry, files, scope, notes, due, output)
         }
         Err(fault) => Err(fault),
+    }
+}
+
+/// Draws the files of a picture as `draw_files` does, with what was noted of the events, if there was memory to read
+/// it.
+///
+/// # Errors
+/// `Memory`, if there was none, and as `draw_files`.
+pub(crate) fn draw_noted<Y: System, O: Write>(
+    world: &World<'_, Y>,
+    scope: &DrawOptions<'_>,
+    names: &SessionNames<'_>,
+    noted: &Result<DrawnNotes, AllocError>,
+    due: &mut Option<Report>,
+    output: &mut O,
+) -> Result<DrawOutcome, EngineFault>
+    ensures { DrawLeaves (options_view names.now.options) (Y.Files.file_of world.now.files.now names.now.spec.now)
+        (MayBeUnread (Y.Files.file_of world.now.files.now names.now.spec.now
+        ∷ map (Y.Files.file_of world.now.files.now) (session_view names.now).1)
+        (Y.Files.file_of world.now.files.now names.now.spec.now ∷ []))
+        (OfFiles (sources_of (map (Y.Files.file_of world.now.files.now) (session_view names.now).1))
+        (scope_view scope.now)) result (O.contents output.old) (O.contents output.new) }
+{
+    match noted {
+        Ok(noted) => draw_files(world, scope, names, noted.all(), due, output),
+        Err(_) => Err(EngineFault::Memory),
     }
 }
 

@@ -16,6 +16,7 @@ use judge_session::EngineFault;
 use out_picture::DrawOptions;
 use pd_engine::{ByteSource, Inquiry, Refusal, Report, report_inquiry};
 use pd_gather::WholeBytes;
+use read_notes::EventNote;
 use std::io::Write;
 
 /// Whether a report is a refusal, but for a causal cycle.
@@ -40,6 +41,7 @@ fn draw_due<Y: System, O: Write>(
     report: &Report,
     streams: Vec<WholeBytes<'_>>,
     scope: &DrawOptions<'_>,
+    notes: &[EventNote],
     output: &mut O,
 ) -> Result<DrawOutcome, EngineFault>
     requires right { IsTrueReportOfInputs (inquiry_view inquiry)
@@ -54,7 +56,7 @@ fn draw_due<Y: System, O: Write>(
         let heading = b"monitor: no picture, for the session is refused:\n";
         return Ok(DrawOutcome::Refused(notice(world.alloc, heading, &text)?));
     }
-    draw_report(world, inquiry, &text, streams, scope, output)
+    draw_report(world, inquiry, &text, streams, scope, notes, output)
 }
 
 /// Reads the streams, judges a document, with what is asked, and these, draws the report, writes the picture, and
@@ -68,6 +70,7 @@ pub(crate) fn draw_own<Y: System, R: ByteSource + Send + Drop, O: Write>(
     inquiry: Inquiry<'_, '_, '_>,
     streams: Vec<R>,
     scope: &DrawOptions<'_>,
+    notes: &[EventNote],
     due: &mut Option<Report>,
     output: &mut O,
 ) -> Result<DrawOutcome, EngineFault>
@@ -83,7 +86,7 @@ pub(crate) fn draw_own<Y: System, R: ByteSource + Send + Drop, O: Write>(
     let gate = LevelGate::new(world.files);
     let report = report_inquiry(world.rt, world.alloc, inquiry, readers, 1, &gate)?;
     let readers = readers_of(world.alloc, &read)?;
-    let end = draw_due(world, inquiry, &report, readers, scope, output);
+    let end = draw_due(world, inquiry, &report, readers, scope, notes, output);
     *due = Some(report);
     end
 }

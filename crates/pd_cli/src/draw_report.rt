@@ -9,6 +9,7 @@ use judge_draw::{DrawOutcome, draw};
 use judge_session::EngineFault;
 use out_picture::DrawOptions;
 use pd_engine::{ByteSource, Inquiry};
+use read_notes::EventNote;
 use std::alloc::{AllocError, Global};
 use std::io::Write;
 
@@ -54,8 +55,8 @@ fn finish<O: Write>(
     }
 }
 
-/// Draws a report by its bytes, a document, with what is asked, and the streams, writes the picture, and flushes the
-/// output.
+/// Draws a report by its bytes, a document, with what is asked, the streams, and notes on their events, writes the
+/// picture, and flushes the output.
 ///
 /// # Errors
 /// `Memory` leaves nothing written. `Write` leaves a part of the picture written, or all of it if only the flush
@@ -66,6 +67,7 @@ pub(crate) fn draw_report<Y: System, R: ByteSource + Send + Drop, O: Write>(
     report: &[u8],
     streams: Vec<R>,
     scope: &DrawOptions<'_>,
+    notes: &[EventNote],
     output: &mut O,
 ) -> Result<DrawOutcome, EngineFault>
     requires open { All (λ stream. R.has_ended stream ≡ false) streams.items }
@@ -80,6 +82,7 @@ pub(crate) fn draw_report<Y: System, R: ByteSource + Send + Drop, O: Write>(
         report,
         streams,
         scope,
+        notes,
         output,
     )?;
     finish(world.alloc, drawing, output)

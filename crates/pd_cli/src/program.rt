@@ -20,12 +20,14 @@ ghost use Rattle.pd_spec.specs.Views.{options_view};
 ghost use Rattle.std.specs.Prelude.{◌≡◌, ◌≤◌, ◌∷◌, [], drop, false, length, map, vec_len};
 
 use super::bundle::judge_input;
-use super::draw_files::{draw_files, report_drawing};
+use super::draw_files::{draw_noted, report_drawing};
 use super::explanation::write_explanation;
 use super::explore_files::explore_files;
 use super::parser_error::report_parser_error;
 use app_arguments::{Format, Judgement, PageOptions, Request, Service, SessionNames, Test, parse};
-use app_ends::{bundle_text, check_text, drawing_text, exploration_text, judgement_text};
+use app_ends::{
+    bundle_text, check_text, drawing_text, exploration_text, judgement_text, notes_to_draw,
+};
 use app_host::{
     FileSource, LevelGate, Network, NotedSource, Notes, System, World, check_files, judge_files,
     report_bundle, report_end, report_judgement,
@@ -63,7 +65,8 @@ fn run_check<Y: System, O: Write, E: Write>(
     report_end(&end, errors)
 }
 
-/// Draws the session in files, with the report that may be among them, and gives the exit status.
+/// Draws the session in files, with the report that may be among them, and what was noted of its events, and gives the
+/// exit status. Notes change none.
 fn run_draw<Y: System, O: Write, E: Write>(
     world: &World<'_, Y>,
     scope: &DrawOptions<'_>,
@@ -76,8 +79,9 @@ fn run_draw<Y: System, O: Write, E: Write>(
         (O.contents output.old) (O.contents output.new) start (E.contents errors.new)) (E.contents errors.old) }
 {
     let mut due = None;
-    let end = draw_files(world, scope, names, &mut due, output);
-    let text = drawing_text(world, due.as_ref(), scope, names, &end);
+    let noted = notes_to_draw(world, names);
+    let end = draw_noted(world, scope, names, &noted, &mut due, output);
+    let text = drawing_text(world, due.as_ref(), scope, names, &noted, &end);
     write_explanation(world.explain, &text, errors);
     report_drawing(&end, errors)
 }

@@ -14,7 +14,7 @@ pub returns-in-Some-clause-drawn : goal.returns-in-Some-clause-drawn
 returns-in-Some-clause-drawn c =
     cycle_drawn (document_view c.args.spec.now) c.args.traces.now (pairs_view c.args.pairs.now)
     (report_view c.args.claimed.now) (refusal_view c.in-Refused.refusal) c.args.scope.now.extent
-    c.in-Some.picture c.requires.messages
+    c.in-Some.picture.drawing c.requires.messages
     (rw c.in-Refused.is at c.requires.refused) (rw c.in-Some.is at c.in_ok-drawn-in-Refused.ensures.claimed)
     (rw c.in-Some.is at c.in_ok-drawn-in-Refused.ensures.drawn)
 

@@ -28,8 +28,8 @@ returns-in-Cycle-clause-undrawn c =
     let document = document_view c.args.spec.now in
     cycle_undrawn document.names (report_view c.args.claimed.now) (named_places_view c.deref.result.now)
     (refusal_view c.args.refusal.now)
-    (IsCycleDrawn document (computation_view c.args.traces.now) (pairs_view c.args.pairs.now)
-    (named_places_view c.deref.result.now) c.args.extent)
+    (λ picture. IsCycleDrawn document (computation_view c.args.traces.now) (pairs_view c.args.pairs.now)
+    (named_places_view c.deref.result.now) c.args.extent picture.drawing)
     (ap refusal_view c.in-Cycle.is
     ∙ ap (λ places. Cycle (named_places_view places)) (sym c.deref.ensures.value)) c.requires.named
     c.draw_places.result c.draw_places.ensures

@@ -14,6 +14,6 @@ returns c = record {
   named = c.requires.named;
   is_picture = subst (λ (title : List ℕ). IsCyclePicture (computation_view c.args.traces.now)
       (pairs_view c.args.pairs.now) (process_names (document_view c.args.spec.now)) title
-      (places_view c.args.cycle.now) c.args.extent c.in_ok-drawing.drawing) (c.deref.ensures ∙ c.in_ok-title.ensures)
-      c.in_ok-drawing.ensures;
+      (places_view c.args.cycle.now) c.args.extent c.in_ok-picture.picture.drawing)
+      (c.deref.ensures ∙ c.in_ok-title.ensures) c.in_ok-picture.ensures;
 }
