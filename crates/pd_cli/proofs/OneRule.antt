@@ -1,6 +1,6 @@
 -- What each command's own definition says is left is what the one rule for all commands says.
 use Rattle.std.proofs.Common.{◌≡◌, ◌⊎◌, ℕ, Bool, true, false, List, [], ◌∷◌, ◌++◌, codes, map, take, Option, None, Some, not, refl, sym, ap, ◌∙◌, subst, inl, inr}
-use Rattle.std.specs.Prelude.{⊤, All, if◌then◌else◌, nat_lt, ◌||◌}
+use Rattle.std.specs.Prelude.{⊤, ◌≢◌, All, if◌then◌else◌, nat_lt, ◌||◌}
 use Rattle.std.specs.List.{list_any}
 use Rattle.std.specs.Io.KnownBytes.{Appends, Keeps}
 use Rattle.std.proofs.lemmas.List.{append-nil}
@@ -8,7 +8,7 @@ use Rattle.def_format.specs.Documents.{Document, Inquiry, IsDocument, Options}
 use Rattle.def_format.specs.Reports.{Report, Judged, Refused}
 use Rattle.def_format.specs.Lists.{is_one_of}
 use Rattle.def_judgement.specs.Findings.{is_clean}
-use Rattle.def_judgement.specs.Writes.{IsFindingTextOf, IsJudged, IsRefused, IsTextOfBundle, Source, Whole}
+use Rattle.def_judgement.specs.Writes.{IsBrokenOff, IsFindingTextOf, IsJudged, IsRefused, IsTextOfBundle, IsTooLong, Source, Whole}
 use Rattle.def_judgement.proofs.CleanFindings.{clean_is_clean_lem}
 use Rattle.def_judgement.proofs.TextsOwed.{weaker_said_of_bundle, weaker_said_of_streams}
 use Rattle.def_judgement.proofs.Writing.{writes_weaker}
@@ -17,7 +17,7 @@ use Rattle.app_arguments.specs.Conditions.{is_met, unknown_name}
 use Rattle.app_arguments.specs.Conditions as conditions
 use Rattle.app_arguments.specs.Formats.{Format, Plain, Json}
 use Rattle.app_arguments.specs.Places.{Place}
-use Rattle.app_arguments.specs.Statuses.{Alarm, BundleFailure, CheckFiles, ComesTo, DrawFiles, Ending, Ends, ExploreFiles, Failed, Failure, File, HasNamed as HasNamedBy, HelpLeaves, InferDocument, IsTextOfAccepted, JudgeFiles, JudgeInput, JudgementLeaves, LacksNamed, LeavesOf, MayBeUnread, MemoryFailure, Misuse, MisuseLeaves, Negative, NetworkFailure, NoPredicate, OfClaim, OfConnections, OfDocument, OfFinding, OfNamed, OfReport, PageOptions, ReadFailure, Reports, Request, ServeStreams, ServiceMayFail, SessionLeaves, ShowHelp, ShowVersion, Success, TestRuns, Unclear, VersionLeaves, WriteFailure, WritesUpTo, sources_of}
+use Rattle.app_arguments.specs.Statuses.{Alarm, BundleFailure, CheckFiles, ComesTo, DrawFiles, Ending, Ends, ExploreFiles, Failed, Failure, File, HasNamed as HasNamedBy, HelpLeaves, InferDocument, IsTextOfAccepted, JudgeFiles, JudgeInput, JudgementLeaves, LacksNamed, LeavesOf, MayBeUnread, MemoryFailure, Misuse, MisuseLeaves, Negative, NetworkFailure, NoPredicate, OfClaim, OfConnections, OfDocument, OfFinding, OfNamed, OfReport, PageOptions, ReadFailure, Reports, Request, ServeStreams, ServiceMayFail, SessionLeaves, ShowHelp, ShowVersion, Success, TestRuns, Unclear, VersionLeaves, WriteFailure, WritesUpTo, sources_of, status_of}
 use Rattle.app_host.proofs.FilesRead.{up_to_weaker}
 use Rattle.app_host.proofs.JsonReports.{weaker_said_of_json}
 use Rattle.app_host.specs.FileSources.{bytes_in}
@@ -31,7 +31,7 @@ use Rattle.judge_runs.specs.Wishes.{Condition, lacks_name, names_of}
 use Rattle.clap.specs.Words.{Text}
 use Rattle.pd_cli.specs.Explorations.{ExplorationLeaves, IsNotesFile, IsOwedWith, OfPage, all_named}
 use Rattle.pd_cli.specs.RunCases.{Leaves as LeavesCase, RunsAsAsked}
-use Rattle.pd_cli.specs.Runs.{By, EndsBy, HasNamed, IsInputUnread, IsTestAt, LeavesText, Leaves, LeavesReport, MayNotServe, OfSession, RunsAs, due_of_report, line_of_ending, names_in}
+use Rattle.pd_cli.specs.Runs.{By, EndsBy, HasNamed, IsTestAt, LeavesText, Leaves, LeavesReport, OfSession, RunsAs, due_of_report, names_in, report_of}
 
 -- ---- what is reported
 
@@ -41,13 +41,21 @@ keeps_appends (Some xs) None h = absurd h
 keeps_appends (Some xs) (Some ys) h = h ∙ sym (append-nil xs)
 
 reported : (ending : Ending) (old new : Option (List ℕ)) → Reports ending old new
-    → (ending ≡ Misuse) ⊎ WritesUpTo (λ text. text ≡ line_of_ending ending) old new
+    → (ending ≡ Misuse) ⊎ WritesUpTo (λ text. text ≡ (report_of ending).1) old new
 reported Success old new h = inr (inl ([], refl, keeps_appends old new h))
 reported Negative old new h = inr (inl ([], refl, keeps_appends old new h))
 reported Alarm old new h = inr (inl ([], refl, keeps_appends old new h))
 reported NoPredicate old new h = inr h
 reported Misuse old new h = inl refl
 reported (Failed failure) old new h = inr h
+
+status_reported : (ending : Ending) → status_of ending ≡ (report_of ending).0
+status_reported Success = refl
+status_reported Negative = refl
+status_reported Alarm = refl
+status_reported NoPredicate = refl
+status_reported Misuse = refl
+status_reported (Failed failure) = refl
 
 -- memory runs out, and nothing is left
 abbrev OutOfMemory : Ending → (old new : Option (List ℕ)) → Type 0
@@ -62,13 +70,13 @@ by_rule : (A : Ending → Type 0) (B : Ending → (old new : Option (List ℕ)) 
 by_rule A B status old new errors_old errors_new go h = elim (go h.ending h.output) [
   | inl memory ↦ inl (record {
     ending = h.ending;
-    is_status = h.is_status;
+    is_status = h.is_status ∙ status_reported h.ending;
     output = memory;
     errors = reported h.ending errors_old errors_new h.errors;
   })
   | inr left ↦ inr (record {
     ending = h.ending;
-    is_status = h.is_status;
+    is_status = h.is_status ∙ status_reported h.ending;
     output = left;
     errors = reported h.ending errors_old errors_new h.errors;
   })
@@ -133,7 +141,8 @@ report_left IsText follows fail_on (Failed NetworkFailure) old new h = absurd h
 
 input_left : (input : Source) (old new : Option (List ℕ)) (ending : Ending)
     → JudgementLeaves input ending old new → OutOfMemory ending old new
-    ⊎ (IsInputUnread input ending × Keeps old new ⊎ LeavesReport (IsTextOfBundle input) [] ending old new)
+    ⊎ (((ending ≡ Failed ReadFailure) × IsBrokenOff input ⊎ (ending ≡ Failed BundleFailure) × IsTooLong input)
+    × Keeps old new ⊎ LeavesReport (IsTextOfBundle input) [] ending old new)
 input_left input old new Success h =
     inr (inr (writes_weaker _ _ Whole old new (λ text. weaker_said_of_bundle input _ _ text is_judged) h))
 input_left input old new Negative h =
@@ -142,10 +151,10 @@ input_left input old new Alarm h = absurd h
 input_left input old new NoPredicate h = absurd h
 input_left input old new Misuse h = absurd h
 input_left input old new (Failed MemoryFailure) h = inl (refl, h)
-input_left input old new (Failed ReadFailure) h = inr (inl h)
+input_left input old new (Failed ReadFailure) h = inr (inl (inl (refl, h.0), h.1))
 input_left input old new (Failed WriteFailure) h =
     inr (inr (up_to_weaker _ _ old new (λ text. weaker_said_of_bundle input _ _ text (λ report any. inr refl)) h))
-input_left input old new (Failed BundleFailure) h = inr (inl h)
+input_left input old new (Failed BundleFailure) h = inr (inl (inr (refl, h.0), h.1))
 input_left input old new (Failed NetworkFailure) h = absurd h
 
 -- ---- predicates that are named
@@ -262,7 +271,9 @@ accepted_follows inquiry G P Q text go h = record {
 module _ (G : Source → Type 0) (network_serves : Bool) (wait : Option ℕ) (port_file keep : Option (List ℕ))
     (fail_on : List Condition) (old new : Option (List ℕ)) where
   abbrev Served : Inquiry → Ending → (old new : Option (List ℕ)) → Type 0
-  Served inquiry ending old new = MayNotServe network_serves wait port_file keep ending
+  Served inquiry ending old new =
+      ((ending ≡ Failed NetworkFailure) × (wait ≡ None → network_serves ≡ true → ⊥)
+      ⊎ (ending ≡ Failed WriteFailure) × ((keep ≢ None) ⊎ (port_file ≢ None)))
       × ((document : Document) × IsDocument inquiry document) × Keeps old new
       ⊎ LeavesReport (IsTextOfAccepted inquiry G) fail_on ending old new
 
@@ -280,9 +291,9 @@ module _ (G : Source → Type 0) (network_serves : Bool) (wait : Option ℕ) (po
   connections_left inquiry (Failed ReadFailure) h = absurd h
   connections_left inquiry (Failed WriteFailure) (inl h) =
       inr (report_left _ (accepted_follows inquiry G) fail_on (Failed WriteFailure) old new h)
-  connections_left inquiry (Failed WriteFailure) (inr h) = inl h
+  connections_left inquiry (Failed WriteFailure) (inr h) = inl (inr (refl, h.0), h.1, h.2)
   connections_left inquiry (Failed BundleFailure) h = absurd h
-  connections_left inquiry (Failed NetworkFailure) h = inl h
+  connections_left inquiry (Failed NetworkFailure) h = inl (inl (refl, h.0), h.1, h.2)
 
 -- ---- a claim
 

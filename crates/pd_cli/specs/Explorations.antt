@@ -22,15 +22,15 @@ kind_word _ = codes "sometimes"
 abbrev pub shown_wish : Condition → List ℕ × List ℕ
 shown_wish wish = (kind_word wish.kind, unwrap_or wish.name [])
 
--- the note is all that the file of this name holds, if that is known
-abbrev pub IsNoteOf : (bytes_of : List ℕ → Option (List ℕ)) → (name note : List ℕ) → Type 0
-IsNoteOf bytes_of name note = IfSome (bytes_of name) (λ bytes. note ≡ bytes)
-
--- what is asked for, with the notes in the files of these names
+-- what is asked for, with the notes: each is all that the file of its name holds, if that is known
 pub record AreExtras (bytes_of : List ℕ → Option (List ℕ)) (page : PageOptions) (extras : Extras) : Type 0 where
   pub wishes : extras.wishes ≡ map shown_wish page.wishes
-  pub notes : AllZip (IsNoteOf bytes_of) page.notes extras.notes
+  pub notes : AllZip (λ name note. IfSome (bytes_of name) (λ bytes. note ≡ bytes)) page.notes extras.notes
   pub link : extras.link ≡ page.link
+
+-- the note is that of the file of this name
+abbrev pub IsNoteOf : (bytes_of : List ℕ → Option (List ℕ)) → (name note : List ℕ) → Type 0
+IsNoteOf bytes_of name note = IfSome (bytes_of name) (λ bytes. note ≡ bytes)
 
 -- the most bytes that a file of notes may have
 abbrev pub notes_byte_limit : ℕ

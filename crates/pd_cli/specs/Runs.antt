@@ -5,12 +5,13 @@ use Rattle.std.specs.Io.KnownBytes.{Keeps}
 use Rattle.def_format.specs.Documents.{Document, Inquiry, IsDocument, Options}
 use Rattle.def_format.specs.Limits.{report_byte_limit}
 use Rattle.def_format.specs.Reports.{Report, Judged, Refused}
+use Rattle.def_judgement.specs.Findings.{names_asked}
 use Rattle.def_judgement.specs.Writes.{IsBrokenOff, IsFindingTextOf, IsTextOfBundle, IsTooLong, Source, Whole, Writes}
-use Rattle.app_arguments.specs.Conditions.{is_met}
+use Rattle.app_arguments.specs.Conditions.{is_asked_for}
 use Rattle.app_arguments.specs.Places.{Place}
-use Rattle.app_arguments.specs.Statuses.{Alarm, BundleFailure, CheckFiles, DrawFiles, Ending, ExploreFiles, Failed, File, InferDocument, IsTextOfAccepted, JudgeFiles, JudgeInput, MayBeUnread, MemoryFailure, Misuse, Negative, NetworkFailure, NoPredicate, OfClaim, OfDocument, ReadFailure, Request, ServeStreams, ShowHelp, ShowVersion, Success, TestRuns, Unclear, WriteFailure, WritesUpTo, line_of_failure, sources_of, status_of}
+use Rattle.app_arguments.specs.Statuses.{Alarm, BundleFailure, CheckFiles, DrawFiles, Ending, ExploreFiles, Failed, File, InferDocument, IsTextOfAccepted, JudgeFiles, JudgeInput, MayBeUnread, MemoryFailure, Misuse, Negative, NetworkFailure, NoPredicate, OfClaim, OfDocument, ReadFailure, Request, ServeStreams, ShowHelp, ShowVersion, Success, TestRuns, Unclear, WriteFailure, WritesUpTo, line_of_failure, sources_of, status_of_failure}
 use Rattle.judge_runs.specs.Runs.{Fail, NotJudged, Run, count_of, verdict_of_run}
-use Rattle.judge_runs.specs.Wishes.{Condition, lacks_name, names_of}
+use Rattle.judge_runs.specs.Wishes.{Condition, lacks_name}
 use Rattle.app_host.specs.FileSources.{bytes_in}
 use Rattle.app_host.specs.Formats.{IsFormatted}
 use Rattle.app_infer.specs.Inferences.{EndsInferred}
@@ -27,7 +28,7 @@ EndsBy due ending = (ending ≡ due) ⊎ (ending ≡ Failed WriteFailure)
 -- the end that is due of a report: the session has an answer to fail on, or none, or is refused
 abbrev pub due_of_report : (fail_on : List Condition) → Report → Ending
 due_of_report fail_on (Judged processes events messages answers) =
-    if list_any (is_met answers) fail_on then Alarm else Success
+    if list_any (λ condition. list_any (is_asked_for condition) answers) fail_on then Alarm else Success
 due_of_report fail_on (Refused refusal) = Negative
 
 -- the end that is due of recorded runs: one fails, or none does and one isn't judged, or all pass
@@ -36,20 +37,23 @@ due_of_runs wishes runs =
     if nat_lt 0 (count_of Fail (map (verdict_of_run wishes) runs)) then Alarm else
     (if nat_lt 0 (count_of NotJudged (map (verdict_of_run wishes) runs)) then Negative else Success)
 
--- the line that is reported
-abbrev pub line_of_ending : Ending → List ℕ
-line_of_ending NoPredicate = codes "monitor: no predicate of this name\n"
-line_of_ending (Failed failure) = line_of_failure failure
-line_of_ending _ = []
+-- the exit status, and the line that is reported
+abbrev pub report_of : Ending → ℕ × List ℕ
+report_of Success = (0, [])
+report_of Negative = (1, [])
+report_of Alarm = (5, [])
+report_of NoPredicate = (2, codes "monitor: no predicate of this name\n")
+report_of Misuse = (2, [])
+report_of (Failed failure) = (status_of_failure failure, line_of_failure failure)
 
 -- A run with this exit status came to some end, by which this is left on the output, and a line on the errors, or a
 -- prefix of it if they take no more. What is reported of refused arguments is the parser's.
 pub record By (IsLeft : Ending → (old new : Option (List ℕ)) → Type 0) (status : ℕ)
     (old new errors_old errors_new : Option (List ℕ)) : Type 0 where
   pub ending : Ending
-  pub is_status : status ≡ status_of ending
+  pub is_status : status ≡ (report_of ending).0
   pub output : IsLeft ending old new
-  pub errors : (ending ≡ Misuse) ⊎ WritesUpTo (λ text. text ≡ line_of_ending ending) errors_old errors_new
+  pub errors : (ending ≡ Misuse) ⊎ WritesUpTo (λ text. text ≡ (report_of ending).1) errors_old errors_new
 
 -- ---- what is left on the output
 
@@ -73,27 +77,12 @@ IsTestAt files options wishes folders (Failed failure) text =
 IsTestAt files options wishes folders ending text =
     IsTestText files options wishes (λ runs. ending ≡ due_of_runs wishes runs) folders text
 
--- ---- why nothing is left
-
--- a bundle isn't read, or is too long
-abbrev pub IsInputUnread : (input : Source) → Ending → Type 0
-IsInputUnread input (Failed ReadFailure) = IsBrokenOff input
-IsInputUnread input (Failed BundleFailure) = IsTooLong input
-IsInputUnread input _ = ⊥
-
--- Not all places may be bound and connections accepted: the network may fail, or they are waited for no longer than
--- some seconds. Or the session is to be kept, or a port to be named in a file, and that may not be written.
-abbrev pub MayNotServe : (network_serves : Bool) (wait : Option ℕ) (port_file keep : Option (List ℕ)) → Ending → Type 0
-MayNotServe network_serves wait port_file keep (Failed NetworkFailure) = wait ≡ None → network_serves ≡ true → ⊥
-MayNotServe network_serves wait port_file keep (Failed WriteFailure) = (keep ≢ None) ⊎ (port_file ≢ None)
-MayNotServe network_serves wait port_file keep _ = ⊥
-
 -- ---- what is left of a document
 
 -- the document, if the inquiry is of one, has each predicate that is named
 abbrev pub HasNamed : (named : List (Option (List ℕ))) → Inquiry → Type 0
 HasNamed named inquiry = (document : Document) → IsDocument inquiry document
-    → list_any (lacks_name (names_of document.predicates)) named ≡ false
+    → list_any (lacks_name (names_asked document)) named ≡ false
 
 -- What is left of a run whose document stands in this file. A file can't be opened or read, which is so only if that
 -- may be: nothing. The document, with what is asked, lacks a predicate that is named: nothing. It has all, or is
@@ -116,8 +105,10 @@ names_in conditions = map (λ (condition : Condition). condition.name) condition
 abbrev pub Leaves : (input : Source) (files : List ℕ → File) (connections : Place → Source → Type 0)
     (network_serves : Bool) → Request → (status : ℕ) (old new errors_old errors_new : Option (List ℕ)) → Type 0
 Leaves input files connections network_serves JudgeInput =
-    By (λ ending old new. IsInputUnread input ending × Keeps old new
-    ⊎ LeavesReport (IsTextOfBundle input) [] ending old new)
+    By (λ ending old new.
+    -- the bundle isn't read, or is too long
+    ((ending ≡ Failed ReadFailure) × IsBrokenOff input ⊎ (ending ≡ Failed BundleFailure) × IsTooLong input)
+    × Keeps old new ⊎ LeavesReport (IsTextOfBundle input) [] ending old new)
 Leaves input files connections network_serves (JudgeFiles options fail_on format document streams) =
     By (OfSession options (files document) (MayBeUnread (files document ∷ map files streams) (files document ∷ []))
     (names_in fail_on) (λ inquiry.
@@ -135,7 +126,10 @@ Leaves input files connections network_serves
     (ServeStreams options fail_on document place port_file watchers wait keep) =
     By (OfSession options (files document) (MayBeUnread (files document ∷ []) (files document ∷ []))
     (names_in fail_on) (λ inquiry ending old new.
-    MayNotServe network_serves wait port_file keep ending
+    -- Not all places may be bound and connections accepted: the network may fail, or they are waited for no longer than
+    -- some seconds. Or the session is to be kept, or a port to be named in a file, and that may not be written.
+    ((ending ≡ Failed NetworkFailure) × (wait ≡ None → network_serves ≡ true → ⊥)
+    ⊎ (ending ≡ Failed WriteFailure) × ((keep ≢ None) ⊎ (port_file ≢ None)))
     × ((document : Document) × IsDocument inquiry document) × Keeps old new
     ⊎ LeavesReport (IsTextOfAccepted inquiry (connections place)) fail_on ending old new))
 Leaves input files connections network_serves (ExploreFiles options fail_on page document streams) =
