@@ -1,5 +1,5 @@
 -- What comes of a run by the bytes that were read of its document comes of it by the document's file.
-use Rattle.std.proofs.Common.{◌≡◌, ℕ, List, [], ◌∷◌, map, None, Ok, Err, ap, refl, sym, subst}
+use Rattle.std.proofs.Common.{◌≡◌, ℕ, List, [], ◌∷◌, map, None, Ok, Err, ap, inl, inr, refl, sym, subst}
 use Rattle.std.specs.Prelude.{IfOk, Result}
 use Rattle.std.specs.List.{AllZip}
 use Rattle.def_format.specs.Documents.{Document, DocumentFault, Inquiry, IsDocument, IsRefusedDocument, Options, inquiry_of, outline_of_inquiry}
@@ -17,8 +17,7 @@ use Rattle.pd_engine.specs.SessionReports.{IsTrueReportOfInputs}
 use Rattle.app_host.specs.FileSources.{IsReadOf, Knows}
 use Rattle.app_host.proofs.DocumentPrefixes.{same_document, same_judgement, same_refusal, same_truth}
 use Rattle.app_host.proofs.FilesRead.{given_as_files, of_document}
-use Rattle.app_test.specs.ReadRuns.{IsReadOutcome, IsReportOfInquiry}
-use Rattle.app_test.specs.Tests.{IsOutcome, document_in, of_document_unread, of_report, of_stream_unread, of_unnamed, streams_in}
+use Rattle.app_test.specs.Tests.{IsOutcome, IsReadOutcome, IsReportOfInquiry, document_in, streams_in}
 
 -- ---- the whole document
 
@@ -31,44 +30,47 @@ whole_document : (options : Options) (file : File) (read : List ℕ) → IsReadO
 whole_document options file read is =
     of_document options file read (Unit {0}) (HasOutlineOf options read) is (λ document same _. same) tt
 
+-- what comes of a run by the bytes that were read comes of it by all bytes
+moved : (files : List ℕ → File) (options : Options) (wishes : List Condition) (folder read bytes : List ℕ)
+    → HasOutlineOf options read (inquiry_of options bytes) → (outcome : Outcome)
+    → IsReadOutcome files wishes folder (inquiry_of options read) outcome
+    → IsReadOutcome files wishes folder (inquiry_of options bytes) outcome
+moved files options wishes folder read bytes same (Unread file) found = (
+  found.0,
+  same_document options read bytes found.0 same found.1,
+  found.2,
+  found.3,
+  found.4,
+  found.5,
+  found.6,
+  found.7,
+)
+moved files options wishes folder read bytes same (Unnamed name) found =
+    (found.0, same_document options read bytes found.0 same found.1, found.2)
+moved files options wishes folder read bytes same (Reported report) found = record {
+  inputs = found.inputs;
+  of_document = λ document is_document.
+      found.of_document document (same_document options bytes read document (sym same) is_document);
+  of_refused = λ fault refused.
+      found.of_refused fault (same_refusal options bytes read fault (sym same) refused);
+  given = record {
+    streams = found.given.streams;
+    are_given = found.given.are_given;
+    right = same_judgement options read bytes found.given.streams report same found.given.right;
+    truth = same_truth options read bytes found.given.streams report same found.given.truth;
+  };
+}
+
 pub outcome_of_read : (files : List ℕ → File) (options : Options) (wishes : List Condition) (folder read : List ℕ)
     → IsReadOf read (files (document_in folder)).source → (outcome : Outcome)
     → IsReadOutcome files wishes folder (inquiry_of options read) outcome
     → IsOutcome files options wishes folder outcome
-outcome_of_read files options wishes folder read is (Unread file) found =
+outcome_of_read files options wishes folder read is outcome found =
     let all = whole_document options (files (document_in folder)) read is in
-    of_stream_unread file (record {
+    inr (record {
       bytes = all.bytes;
       whole = all.whole;
-      document = found.0;
-      is_document = same_document options read all.bytes found.0 all.holds found.1;
-      holds = found.2;
-    })
-outcome_of_read files options wishes folder read is (Unnamed name) found =
-    let all = whole_document options (files (document_in folder)) read is in
-    of_unnamed name (record {
-      bytes = all.bytes;
-      whole = all.whole;
-      document = found.0;
-      is_document = same_document options read all.bytes found.0 all.holds found.1;
-      holds = found.2;
-    })
-outcome_of_read files options wishes folder read is (Reported report) found =
-    let all = whole_document options (files (document_in folder)) read is in
-    of_report report (record {
-      bytes = all.bytes;
-      whole = all.whole;
-      inputs = found.inputs;
-      of_document = λ document is_document.
-          found.of_document document (same_document options all.bytes read document (sym all.holds) is_document);
-      of_refused = λ fault refused.
-          found.of_refused fault (same_refusal options all.bytes read fault (sym all.holds) refused);
-      given = record {
-        streams = found.given.streams;
-        are_given = found.given.are_given;
-        right = same_judgement options read all.bytes found.given.streams report all.holds found.given.right;
-        truth = same_truth options read all.bytes found.given.streams report all.holds found.given.truth;
-      };
+      holds = moved files options wishes folder read all.bytes all.holds outcome found;
     })
 
 -- the same of a result
@@ -98,7 +100,7 @@ pub unread_document : (files : List ℕ → File) (options : Options) (wishes : 
 unread_document files options wishes folder path fault same unread (Ok outcome) found =
     subst (λ (o : Outcome). IsOutcome files options wishes folder o) (sym found.1)
     (subst (λ (p : List ℕ). IsOutcome files options wishes folder (Unread p)) (sym same)
-    (of_document_unread (subst (λ (p : List ℕ). MayBeUnread (files p ∷ []) (files p ∷ [])) same (unread found.0))))
+    (inl (refl, subst (λ (p : List ℕ). MayBeUnread (files p ∷ []) (files p ∷ [])) same (unread found.0))))
 unread_document files options wishes folder path fault same unread (Err other) found = tt
 
 -- ---- the report of an inquiry

@@ -1,14 +1,15 @@
 -- What a test of recorded runs leaves on its output, by the files in their folders.
-use Rattle.std.specs.Prelude.{◌≡◌, ⊤, ℕ, List, [], ◌∷◌, ◌++◌, codes, map, take, Option, Some, None, Result, Ok, Err}
+use Rattle.std.specs.Prelude.{◌≡◌, ◌⊎◌, ⊤, ℕ, List, [], ◌∷◌, ◌++◌, codes, map, take, Option, Some, None, Result, Ok, Err}
 use Rattle.std.specs.List.{AllZip, slice_get}
-use Rattle.def_format.specs.Documents.{Document, DocumentFault, IsDocument, IsRefusedDocument, Options, inquiry_of}
+use Rattle.def_format.specs.Documents.{Document, DocumentFault, Inquiry, IsDocument, IsRefusedDocument, Options}
 use Rattle.def_format.specs.Names.{ProcessNames}
 use Rattle.def_format.specs.Reports.{Report}
 use Rattle.def_judgement.specs.Writes.{Source, Whole, Writes}
-use Rattle.app_arguments.specs.Statuses.{Alarm, Ending, Failed, File, IsWholeDocument, MayBeUnread, MemoryFailure, Negative, Success, WriteFailure, WritesUpTo, sources_of}
+use Rattle.app_arguments.specs.Statuses.{Alarm, Ending, Failed, File, MayBeUnread, MemoryFailure, Negative, OfDocument, Success, WriteFailure, WritesUpTo, sources_of}
 use Rattle.judge_runs.specs.Runs.{AllPass, Conclusion, Outcome, Reported, Run, SomeFails, SomeNotJudged, Unnamed, Unread, conclusion, test_text}
 use Rattle.judge_runs.specs.Views.{conclusion_view}
-use Rattle.judge_runs.specs.Wishes.{Condition, first_unnamed, names_of}
+use Rattle.def_judgement.specs.Findings.{names_asked}
+use Rattle.judge_runs.specs.Wishes.{Condition, first_unnamed}
 use Rattle.judge_runs.specs.declared.conclusion.Conclusion as conclusions
 use Rattle.pd_engine.specs.SessionReports.{IsTrueReportOfInputs}
 use Rattle.judge_session.specs.declared.fault.EngineFault.{EngineFault}
@@ -16,74 +17,46 @@ use Rattle.app_host.specs.Faults.{failure_view}
 
 -- ---- the files of a run
 
--- the file of this name in a folder
-abbrev pub file_in : (folder name : List ℕ) → List ℕ
-file_in folder name = folder ++ codes "/" ++ name
-
 abbrev pub document_in : (folder : List ℕ) → List ℕ
-document_in folder = file_in folder (codes "session.json")
+document_in folder = folder ++ codes "/" ++ codes "session.json"
 
 abbrev pub stream_in : (folder : List ℕ) → ProcessNames → List ℕ
-stream_in folder process = file_in folder (process.name ++ codes ".stream")
-
-abbrev pub streams_in : (folder : List ℕ) → List ProcessNames → List (List ℕ)
-streams_in folder names = map (stream_in folder) names
+stream_in folder process = folder ++ codes "/" ++ (process.name ++ codes ".stream")
 
 -- ---- what comes of a run
 
--- The report of the document in a folder, with what is asked beside it, and of the streams there of its processes, in
--- the document's order; it has each predicate that is wished for. The report is true. Of a document that is refused no
--- stream is read.
-pub record IsReportOfRun (files : List ℕ → File) (options : Options) (wishes : List Condition) (folder : List ℕ)
+-- The report of an inquiry, and of the streams in a folder of its document's processes, in the document's order, which
+-- is true. The document has each predicate that is wished for. Of a document that is refused no stream is read.
+pub record IsReportOfInquiry (files : List ℕ → File) (wishes : List Condition) (folder : List ℕ) (inquiry : Inquiry)
     (report : Report) : Type 0 where
-  pub bytes : List ℕ
-  pub whole : IsWholeDocument (files (document_in folder)).source bytes
   pub inputs : List Source
-  pub of_document : (document : Document) → IsDocument (inquiry_of options bytes) document
-      → (first_unnamed (names_of document.predicates) wishes ≡ None)
-      × (inputs ≡ sources_of (map files (streams_in folder document.names)))
-  pub of_refused : (fault : DocumentFault) → IsRefusedDocument (inquiry_of options bytes) fault → inputs ≡ []
-  pub given : IsTrueReportOfInputs (inquiry_of options bytes) inputs report
+  pub of_document : (document : Document) → IsDocument inquiry document
+      → (first_unnamed (names_asked document) wishes ≡ None)
+      × (inputs ≡ sources_of (map files (map (stream_in folder) document.names)))
+  pub of_refused : (fault : DocumentFault) → IsRefusedDocument inquiry fault → inputs ≡ []
+  pub given : IsTrueReportOfInputs inquiry inputs report
 
--- P holds of the document in a folder, with what is asked beside it.
-pub record OfRunDocument (files : List ℕ → File) (options : Options) (folder : List ℕ) (P : Document → Type 0) :
-    Type 0 where
-  pub bytes : List ℕ
-  pub whole : IsWholeDocument (files (document_in folder)).source bytes
-  pub document : Document
-  pub is_document : IsDocument (inquiry_of options bytes) document
-  pub holds : P document
-
--- the first wish for a predicate that a document lacks is for that of this name
-abbrev pub LacksWished : List Condition → (name : List ℕ) → Document → Type 0
-LacksWished wishes name document = first_unnamed (names_of document.predicates) wishes ≡ Some name
-
--- The document has each predicate that is wished for, and a process of it has its stream in the file of this name,
--- which may be such that it can't be opened.
-abbrev pub HasUnreadStream : (files : List ℕ → File) (wishes : List Condition) (folder file : List ℕ) → Document
+-- What comes of a run in a folder by the document there, with what is asked beside it. The document has each predicate
+-- that is wished for, and a process of it has its stream in the file of this name, which may be such that it can't be
+-- opened; or this is the name of the first wish for a predicate that it lacks; or the run is judged.
+abbrev pub IsReadOutcome : (files : List ℕ → File) (wishes : List Condition) (folder : List ℕ) → Inquiry → Outcome
     → Type 0
-HasUnreadStream files wishes folder file document =
-    (place : ℕ) × (process : ProcessNames) × (slice_get document.names place ≡ Some process)
-    × (file ≡ stream_in folder process) × MayBeUnread (files file ∷ []) []
-    × (first_unnamed (names_of document.predicates) wishes ≡ None)
+IsReadOutcome files wishes folder inquiry (Unread file) =
+    (document : Document) × IsDocument inquiry document × (place : ℕ) × (process : ProcessNames)
+    × (slice_get document.names place ≡ Some process) × (file ≡ stream_in folder process)
+    × MayBeUnread (files file ∷ []) [] × (first_unnamed (names_asked document) wishes ≡ None)
+IsReadOutcome files wishes folder inquiry (Unnamed name) =
+    (document : Document) × IsDocument inquiry document × (first_unnamed (names_asked document) wishes ≡ Some name)
+IsReadOutcome files wishes folder inquiry (Reported report) = IsReportOfInquiry files wishes folder inquiry report
 
--- First the document is read, then each predicate that is wished for is looked up in it, then the streams are opened,
--- in its order, and then the run is judged.
-pub data IsOutcome (files : List ℕ → File) (options : Options) (wishes : List Condition) (folder : List ℕ) :
-    Outcome → Type 0 where
-  of_document_unread : MayBeUnread (files (document_in folder) ∷ []) (files (document_in folder) ∷ [])
-      → IsOutcome files options wishes folder (Unread (document_in folder))
-  of_unnamed : (name : List ℕ) → OfRunDocument files options folder (LacksWished wishes name)
-      → IsOutcome files options wishes folder (Unnamed name)
-  of_stream_unread : (file : List ℕ) → OfRunDocument files options folder (HasUnreadStream files wishes folder file)
-      → IsOutcome files options wishes folder (Unread file)
-  of_report : (report : Report) → IsReportOfRun files options wishes folder report
-      → IsOutcome files options wishes folder (Reported report)
-
--- the run is that in this folder, with what comes of it
-abbrev pub IsRunIn : (files : List ℕ → File) (options : Options) (wishes : List Condition) (folder : List ℕ) → Run
-    → Type 0
-IsRunIn files options wishes folder run = (run.folder ≡ folder) × IsOutcome files options wishes folder run.outcome
+-- First the document is read, which may not be possible; then each predicate that is wished for is looked up in it, then
+-- the streams are opened, in its order, and then the run is judged.
+abbrev pub IsOutcome : (files : List ℕ → File) (options : Options) (wishes : List Condition) (folder : List ℕ)
+    → Outcome → Type 0
+IsOutcome files options wishes folder outcome =
+    (outcome ≡ Unread (document_in folder))
+    × MayBeUnread (files (document_in folder) ∷ []) (files (document_in folder) ∷ [])
+    ⊎ OfDocument options (files (document_in folder)) (λ inquiry. IsReadOutcome files wishes folder inquiry outcome)
 
 -- ---- the text
 
@@ -91,7 +64,8 @@ IsRunIn files options wishes folder run = (run.folder ≡ folder) × IsOutcome f
 pub record IsTestText (files : List ℕ → File) (options : Options) (wishes : List Condition) (IsSaid : List Run → Type 0)
     (folders : List (List ℕ)) (text : List ℕ) : Type 0 where
   pub runs : List Run
-  pub are_runs : AllZip (IsRunIn files options wishes) folders runs
+  pub are_runs : AllZip (λ folder (run : Run). (run.folder ≡ folder)
+      × IsOutcome files options wishes folder run.outcome) folders runs
   pub said : IsSaid runs
   pub is_text : text ≡ test_text wishes runs
 
@@ -110,6 +84,20 @@ TestLeaves files options wishes folders (Failed WriteFailure) old new =
 TestLeaves files options wishes folders (Failed MemoryFailure) old new =
     (count : ℕ) × WritesUpTo (IsTestText files options wishes (λ _. ⊤) (take count folders)) old new
 TestLeaves files options wishes folders _ old new = ⊥
+
+-- ---- names for parts of this, by which contracts speak of them
+
+-- the file of this name in a folder
+abbrev pub file_in : (folder name : List ℕ) → List ℕ
+file_in folder name = folder ++ codes "/" ++ name
+
+abbrev pub streams_in : (folder : List ℕ) → List ProcessNames → List (List ℕ)
+streams_in folder names = map (stream_in folder) names
+
+-- the run is that in this folder, with what comes of it
+abbrev pub IsRunIn : (files : List ℕ → File) (options : Options) (wishes : List Condition) (folder : List ℕ) → Run
+    → Type 0
+IsRunIn files options wishes folder run = (run.folder ≡ folder) × IsOutcome files options wishes folder run.outcome
 
 -- how a test ends that comes to this, or the fault
 abbrev pub ending_of : Conclusion → Ending

@@ -6,8 +6,8 @@
 //! others. The line of each run is written as soon as the run is judged, and memory holds one run at a time.
 //!
 //! What a test leaves on its output stands in `specs/Tests.antt`. The two files of definitions beside it are for the
-//! functions within: `ReadRuns` says what comes of a run by the bytes that were read of its document, and `TestedRuns`
-//! what is written of the runs so far.
+//! functions within: `ReadRuns` says why the streams of a run aren't open, and `TestedRuns` what is written of the runs
+//! so far.
 //!
 //! - `run_files`: the names of a run's files
 //! - `run_document`: reads the document of a run

@@ -1,6 +1,5 @@
 //! What comes of a run.
-ghost use Rattle.app_test.specs.ReadRuns.{IsReadOutcome};
-ghost use Rattle.app_test.specs.Tests.{IsOutcome};
+ghost use Rattle.app_test.specs.Tests.{IsOutcome, IsReadOutcome};
 ghost use Rattle.judge_runs.specs.Runs as runs;
 ghost use Rattle.judge_runs.specs.Views.{outcome_view, wishes_view};
 ghost use Rattle.judge_runs.specs.Wishes as wished;
