@@ -49,8 +49,8 @@ IsReadOutcome files wishes folder inquiry (Unnamed name) =
     (document : Document) × IsDocument inquiry document × (first_unnamed (names_asked document) wishes ≡ Some name)
 IsReadOutcome files wishes folder inquiry (Reported report) = IsReportOfInquiry files wishes folder inquiry report
 
--- First the document is read, which may not be possible; then each predicate that is wished for is looked up in it, then
--- the streams are opened, in its order, and then the run is judged.
+-- First the document is read, which may not be possible; then each predicate that is wished for is looked up in it,
+-- then the streams are opened, in its order, and then the run is judged.
 abbrev pub IsOutcome : (files : List ℕ → File) (options : Options) (wishes : List Condition) (folder : List ℕ)
     → Outcome → Type 0
 IsOutcome files options wishes folder outcome =
