@@ -141,10 +141,10 @@ fn explain_time(
             "Nothing is written to the standard output.\n"
         },
     )?;
-    if progress.open.load(Ordering::SeqCst) > 0 {
-        say_reading(out, progress)
-    } else if progress.level.load(Ordering::SeqCst) > 0 {
+    if progress.level.load(Ordering::SeqCst) > 0 {
         say_level(out, progress)
+    } else if progress.open.load(Ordering::SeqCst) > 0 {
+        say_reading(out, progress)
     } else {
         say_between(out, limited, progress)
     }
