@@ -37,6 +37,14 @@ EXPLAINED = (b"`high` cannot happen, whatever the messages are: it is false for 
              b"  `a` has at any time.\n")
 BYTES = re.compile(re.escape(START) + rb"(reading: \d+\.\d(?: of \d+\.\d)? MB)" + re.escape(END_OF_LINE))
 LEVEL = re.compile(re.escape(START) + rb"level (\d+) of (\d+): \d+ cuts" + re.escape(END_OF_LINE))
+ASKED = re.compile(re.escape(START) + rb"beyond the width: predicate (\d+) of (\d+)" + re.escape(END_OF_LINE))
+# Sums decide the second predicate, and its first cut is looked for once the walk, of one cut a level, has left it
+# unknown.
+UNDECIDED = b'{"processes":[%s],"predicates":[%s],"width":1}\n---\n%s' % (
+    b",".join(b'{"name":"%c","vars":{"x":0}}' % name for name in b"abc"),
+    b",".join(b'{"name":"%s","text":"%s"}' % pair for pair in (
+        (b"one", b"a.x == 1 and b.x == 0"), (b"sum", b"a.x + b.x + c.x == 2"), (b"never", b"a.x > 1"))),
+    b"---\n".join(b'{"process":"%c"}\n%s%s' % (name, EVENT, END) for name in b"abc"))
 
 
 class Terminal:
@@ -79,7 +87,7 @@ def send_slowly(terminal, write, drop, is_over):
 
 def is_cleared(terminal):
     """Whether nothing is left of the last line that showed progress; what is explained stands after it."""
-    lines = [line.end() for pattern in (BYTES, LEVEL) for line in pattern.finditer(terminal.shown)]
+    lines = [line.end() for pattern in (BYTES, LEVEL, ASKED) for line in pattern.finditer(terminal.shown)]
     return terminal.shown[max(lines, default=0):].startswith(CLEARED)
 
 
@@ -231,6 +239,28 @@ def served(program, document, count):
     sys.exit("progress: no server listens")
 
 
+def beyond_the_width(program):
+    """Each predicate that is answered beyond the width is shown at once, however quick the run is."""
+    with tempfile.TemporaryDirectory() as folder:
+        paths = [os.path.join(folder, name) for name in ("session.json", "a.stream", "b.stream", "c.stream")]
+        for path, part in zip(paths, UNDECIDED.split(b"---\n")):
+            with open(path, "wb") as file:
+                file.write(part)
+        for command in ("judge", "explore"):
+            terminal = Terminal(program, [command, "--beyond-width", *paths])
+            output, status = terminal.end()
+            yield "the status", status, 0
+            yield "the predicates", [tuple(map(int, asked)) for asked in ASKED.findall(terminal.shown)], [
+                (1, 3), (2, 3), (3, 3), (2, 3)]
+            yield "what is left", is_cleared(terminal), True
+            plain = subprocess.run([program, command, "--beyond-width", *paths], check=False, capture_output=True)
+            yield "the output with no terminal", plain.stdout, output
+            yield "what is shown with no terminal", plain.stderr, b""
+        terminal = Terminal(program, ["judge", *paths])
+        terminal.end()
+        yield "what is shown within the width", ASKED.findall(terminal.shown), []
+
+
 def dumb_terminal(program):
     """A terminal whose lines can't be written over shows nothing but what is explained."""
     for kind in ("dumb", ""):
@@ -259,7 +289,7 @@ def main():
     if not os.access(program, os.X_OK):
         sys.exit(f"progress: no program {program}")
     cases = (slow_bundle, counted_bytes, sizes_of_files, long_walk, long_walk_of_files, long_walk_of_connections,
-             dumb_terminal, short_run)
+             beyond_the_width, dumb_terminal, short_run)
     differing = 0
     for case in cases:
         found = [(what, given, wanted) for what, given, wanted in case(program) if given != wanted]

@@ -27,6 +27,7 @@ NO_MORE = "time over: no more runs are judged\n"
 EVENTS, LENGTH = 6000, 4096
 # What may have been done when the time is over: on a slow machine it is over sooner.
 DONE = r"(The files were being read: |Nothing was read yet\.|All that is read first was read, |A walk up the levels had )"
+NAMED = re.compile(r"(?m)^Predicate ([1-9]|1[0-6]) of 16 was being answered beyond the width\.\nWhat to do: ")
 EXPLAINED = re.compile(r"The time of --max-time is over, 1 s\.\nNothing is written to the standard output\.\n" + DONE
                        + r"(?s:.)*\nWhat to do: (?s:.)*\nmonitor: time\n")
 
@@ -85,6 +86,7 @@ class Runs:
         yield "a bundle", self.long_bundle, (6, "", LINE)
         yield "the option after the files", lambda: self.end(["judge", *long, "--max-time=1"]), (6, "", LINE)
         yield "explained", lambda: self.explained(["judge", *long]), (6, "", True)
+        yield "explained, beyond the width", self.named, (6, "", True)
         yield "a server, explained", lambda: self.explained(["serve", SESSION, "--port", "0", "--port-file",
                                                              os.path.join(self.folder, "other")]), (6, "", True)
         yield "test", self.tested, (6, True, LINE)
@@ -110,6 +112,15 @@ class Runs:
         status, output, errors = self.end(["--explain", "--max-time", "1", *words])
         shown = re.sub(r"(?m)^serve: .*\n(?:  .*\n)*", "", errors)
         return status, output, bool(EXPLAINED.fullmatch(shown)) or "No level was walked yet: " in shown or errors
+
+    def named(self):
+        """It is said which predicate is answered beyond the width; on a slow machine that comes later."""
+        for seconds in ("1", "8", "32"):
+            status, output, errors = self.end(["--explain", "--max-time", seconds, "judge", "--beyond-width",
+                                               *self.long])
+            if NAMED.search(errors):
+                return status, output, True
+        return status, output, errors
 
     def tested(self):
         """The line of the quick run is there, unless the time was over before that run was judged."""

@@ -1,4 +1,4 @@
-//! Where files are read, and those of a session that is kept are written; and what hears how far a walk has come.
+//! Where files are read, and those of a session that is kept are written; and what hears how far a judgement has come.
 use pd_engine::{ByteSource, Reached};
 use std::alloc::Global;
 use std::io::{ErrorKind, Read, Write};
@@ -78,6 +78,10 @@ pub trait FileSource: Sync {
 
     /// Hears that a walk over a session in these files has come to this level.
     fn on_level(&self, _level: Reached) {}
+
+    /// Hears that a predicate of a session in these files is answered beyond the width: which one, counted from 1, and
+    /// of how many.
+    fn on_predicate(&self, _number: u64, _count: u64) {}
 
     /// Whether the output is a pipe or a connection: a write to it fails only once whoever reads it has ended.
     fn output_is_read(&self) -> bool {

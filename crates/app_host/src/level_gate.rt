@@ -4,7 +4,7 @@ use app_explain::Widest;
 use pd_engine::{Gate, Reached};
 use std::sync::atomic::{AtomicU64, Ordering};
 
-/// Lets each block pass, says where the files are how far the walk has come, and keeps the widest level for an
+/// Lets each block pass, says where the files are how far the judgement has come, and keeps the widest level for an
 /// explanation.
 #[derive(Drop)]
 pub struct LevelGate<'a, F> {
@@ -44,5 +44,9 @@ impl<'a, F: FileSource> Gate for LevelGate<'a, F> {
             self.cuts.store(level.cuts, Ordering::SeqCst);
         }
         self.files.on_level(level);
+    }
+
+    fn ask(&self, number: u64, count: u64) {
+        self.files.on_predicate(number, count);
     }
 }

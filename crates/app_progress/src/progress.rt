@@ -24,12 +24,17 @@ pub struct Progress {
     pub(crate) whole: AtomicU64,
     /// How many files are being read.
     pub(crate) open: AtomicU64,
-    /// The number of the level to which a walk has come, and 1 more; 0 if none has begun since the last file was read.
+    /// The number of the level to which a walk has come, and 1 more; 0 if none has begun since the last file was read,
+    /// or a predicate is answered beyond the width.
     pub(crate) level: AtomicU64,
     /// The number of the last level of that walk.
     pub(crate) last: AtomicU64,
     /// How many cuts the level has.
     pub(crate) cuts: AtomicU64,
+    /// The number of the predicate that is answered beyond the width, counted from 1; 0 if none is.
+    pub(crate) predicate: AtomicU64,
+    /// How many predicates there are.
+    pub(crate) predicates: AtomicU64,
     /// `FREE`, `WRITING` or `ENDED`.
     turn: AtomicU64,
 }
@@ -46,6 +51,8 @@ impl Progress {
             level: AtomicU64::new(0),
             last: AtomicU64::new(0),
             cuts: AtomicU64::new(0),
+            predicate: AtomicU64::new(0),
+            predicates: AtomicU64::new(0),
             turn: AtomicU64::new(FREE),
         }
     }
@@ -56,6 +63,7 @@ impl Progress {
             self.whole.fetch_add(size, Ordering::SeqCst);
             self.open.fetch_add(1, Ordering::SeqCst);
             self.level.store(0, Ordering::SeqCst);
+            self.predicate.store(0, Ordering::SeqCst);
         }
     }
 
@@ -78,6 +86,16 @@ impl Progress {
             self.cuts.store(level.cuts, Ordering::SeqCst);
             self.level
                 .store(level.number.saturating_add(1), Ordering::SeqCst);
+            self.predicate.store(0, Ordering::SeqCst);
+        }
+    }
+
+    /// A predicate is answered beyond the width: this one, of so many.
+    pub(crate) fn ask(&self, number: u64, count: u64) {
+        if self.is_watched {
+            self.predicates.store(count, Ordering::SeqCst);
+            self.predicate.store(number, Ordering::SeqCst);
+            self.level.store(0, Ordering::SeqCst);
         }
     }
 

@@ -5,10 +5,10 @@ use std::io::Eprint;
 use std::sync::atomic::{AtomicU64, Ordering};
 use std::time::{Clock, Duration};
 
-/// How many milliseconds of work pass before anything is shown.
+/// How many milliseconds of work pass before it is shown how much is read, or to which level a walk has come.
 const PATIENCE: u64 = 1000;
 
-/// How many milliseconds at least pass from one line to the next.
+/// How many milliseconds at least pass before the next of these lines.
 const PAUSE: u64 = 100;
 
 /// How many bytes are a tenth of the unit in which bytes are shown.
@@ -71,6 +71,11 @@ impl<'a, R: Clock + Eprint> Screen<'a, R> {
         if now < self.start.saturating_add(PATIENCE) || now < last.saturating_add(PAUSE) {
             return false;
         }
+        self.may_show(now)
+    }
+
+    /// Whether a line may be shown at this time: the run isn't ended. If so, the next one comes later.
+    fn may_show(&self, now: u64) -> bool {
         if self.progress.is_ended() {
             return false;
         }
@@ -126,6 +131,17 @@ impl<'a, R: Clock + Eprint> Screen<'a, R> {
             } = level;
             let _ = eprint!(self.rt;
                 "\r\u{1b}[K\u{1b}[?7llevel {number} of {last}: {cuts} cuts\u{1b}[?7h"
+            );
+        }
+    }
+
+    /// A predicate is answered beyond the width: this one, of so many. It is shown at once: however long that takes,
+    /// nothing comes meanwhile that could be shown.
+    pub(crate) fn ask(&self, number: u64, count: u64) {
+        self.progress.ask(number, count);
+        if self.is_there && self.may_show(millis(self.rt)) {
+            let _ = eprint!(self.rt;
+                "\r\u{1b}[K\u{1b}[?7lbeyond the width: predicate {number} of {count}\u{1b}[?7h"
             );
         }
     }

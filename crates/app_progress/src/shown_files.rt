@@ -62,6 +62,10 @@ impl<'a, F: FileSource, R: Clock + Eprint + Sync> FileSource for ShownFiles<'a, 
         self.screen.reach(level);
     }
 
+    fn on_predicate(&self, number: u64, count: u64) {
+        self.screen.ask(number, count);
+    }
+
     fn output_is_read(&self) -> bool {
         self.files.output_is_read()
     }

@@ -20,9 +20,6 @@ const SERVE: &str = "serve";
 /// The command that writes a line for each run.
 const TEST: &str = "test";
 
-/// The option by which predicates are answered beyond the width.
-const BEYOND: &str = "--beyond-width";
-
 /// A run that may take no more than some seconds, by its arguments.
 #[derive(Clone, Copy)]
 pub struct Limited {
@@ -34,8 +31,6 @@ pub struct Limited {
     pub is_test: bool,
     /// Whether streams come by connections.
     is_served: bool,
-    /// Whether predicates are answered beyond the width.
-    is_beyond: bool,
 }
 
 /// Whether the arguments ask for this command.
@@ -46,13 +41,11 @@ fn asks_for(arguments: &[String], command: &str) -> bool {
 impl Limited {
     /// A run on these arguments, of which the first is the program's name, that may take so many seconds.
     pub fn new(arguments: &[String], seconds: u64, explain: bool) -> Limited {
-        let is_test = asks_for(arguments, TEST);
         Limited {
             seconds,
             explain,
-            is_test,
+            is_test: asks_for(arguments, TEST),
             is_served: asks_for(arguments, SERVE),
-            is_beyond: is_test || arguments.iter().any(|argument| argument.as_str() == BEYOND),
         }
     }
 
@@ -101,7 +94,19 @@ levels stays unknown; or ask less at once, by --ask. With --beyond-width many pr
     )
 }
 
-/// Says what is done once all is read, as long as no level is walked.
+/// Says which predicate was being answered beyond the width.
+fn say_predicate(out: &mut Vec<u8>, progress: &Progress) -> Result<(), AllocError> {
+    say(out, "Predicate ")?;
+    say_number(out, progress.predicate.load(Ordering::SeqCst))?;
+    say(out, " of ")?;
+    say_number(out, progress.predicates.load(Ordering::SeqCst))?;
+    say(
+        out,
+        " was being answered beyond the width.\nWhat to do: give it more time, or ask less at once, by --ask.\n",
+    )
+}
+
+/// Says what is done once all is read, before a level is walked or a predicate is answered beyond the width.
 fn say_between(
     out: &mut Vec<u8>,
     limited: &Limited,
@@ -114,9 +119,6 @@ fn say_between(
         } else if limited.is_served {
             "No level was walked yet: the streams were waited for or read, or the predicates were being answered.\n\
 What to do: give it more time, and --wait for streams that may not come.\n"
-        } else if limited.is_beyond {
-            "All that is read first was read, and no level was being walked: the predicates were being answered beyond \
-the width.\nWhat to do: give it more time, or ask less at once, by --ask.\n"
         } else {
             "All that is read first was read, and no level was being walked yet.\nWhat to do: give it more time, or \
 ask less at once, by --ask.\n"
@@ -143,6 +145,8 @@ fn explain_time(
     )?;
     if progress.level.load(Ordering::SeqCst) > 0 {
         say_level(out, progress)
+    } else if progress.predicate.load(Ordering::SeqCst) > 0 {
+        say_predicate(out, progress)
     } else if progress.open.load(Ordering::SeqCst) > 0 {
         say_reading(out, progress)
     } else {

@@ -11,7 +11,7 @@ ghost use Rattle.pd_spec.specs.Views.{document_view};
 ghost use Rattle.std.specs.List.{AllZip};
 ghost use Rattle.std.specs.Prelude.{◌≡◌, ◌<◌, All, IfOk, length, map, string_bytes};
 
-use super::early::all_early;
+use super::early::{all_early, announce};
 use super::late::{late_definitely, late_possibly, latest};
 use pd_clock::Computation;
 use pd_expand::Crew;
@@ -43,7 +43,7 @@ pub fn answers_of<S: Threads + Wait + Sync, G: Gate + Sync>(
         (document_view spec.now).predicates (map views.answer_view answers.items)) }
 {
     let asked = spec.predicates();
-    let early = all_early(alloc, spec, computation, asked)?;
+    let early = all_early(crew, alloc, spec, computation, asked)?;
     let found = answer_all(crew, alloc, computation, &early.left, spec.width())?;
     let mut answers = Vec::new(alloc);
     for i in 0..asked.len() {
@@ -51,6 +51,7 @@ pub fn answers_of<S: Threads + Wait + Sync, G: Gate + Sync>(
         let known = &early.each[i];
         let possibly = known.possibly(&found);
         let definitely = known.definitely(&found);
+        announce_again(crew, spec, i, possibly);
         let late = late_possibly(
             alloc,
             spec,
@@ -65,6 +66,20 @@ pub fn answers_of<S: Threads + Wait + Sync, G: Gate + Sync>(
         answers.push(answer(alloc, spec, named, computation, possibly, definitely)?)?;
     }
     Ok(answers)
+}
+
+/// Says at the gate that the predicate at this place, counted from 0, is answered beyond the width once more, if the
+/// walk leaves Possibly unknown and the document asks for that.
+fn announce_again<S: Threads + Wait + Sync, G: Gate + Sync>(
+    crew: &Crew<'_, '_, S, G>,
+    spec: &Spec,
+    place: usize,
+    taken: &PossiblyAnswer,
+) {
+    match taken {
+        PossiblyAnswer::Unknown(_) => announce(crew, spec, place),
+        PossiblyAnswer::Yes(_) | PossiblyAnswer::No => {}
+    }
 }
 
 /// The answer for one predicate as a report gives it.

@@ -6,9 +6,13 @@ ghost use Rattle.pd_spec.specs.Views.{document_view};
 ghost use Rattle.std.specs.Prelude.{◌≡◌, ◌<◌, ◌↔◌, IfOk, IsTrue, None, length};
 
 use pd_clock::Computation;
+use pd_expand::Crew;
+use pd_level::Gate;
 use pd_pred::Pred;
 use pd_spec::{NamedPred, Spec};
 use std::alloc::{AllocError, Global};
+use std::sync::Wait;
+use std::thread::Threads;
 use walk_back::{Answers, DefinitelyAnswer, PossiblyAnswer};
 use wide::{Decided, decide};
 
@@ -122,8 +126,22 @@ fn early_of<'a>(
     })
 }
 
+/// Says at the gate that the predicate at this place, counted from 0, is answered beyond the width, if the document
+/// asks for that.
+pub(crate) fn announce<S: Threads + Wait + Sync, G: Gate + Sync>(
+    crew: &Crew<'_, '_, S, G>,
+    spec: &Spec,
+    place: usize,
+) {
+    if spec.beyond_width() {
+        let number = (place as u64).saturating_add(1);
+        crew.ask(number, spec.predicates().len() as u64);
+    }
+}
+
 /// What is decided of each of these predicates of the document.
-pub(crate) fn all_early<'a>(
+pub(crate) fn all_early<'a, S: Threads + Wait + Sync, G: Gate + Sync>(
+    crew: &Crew<'_, '_, S, G>,
     alloc: Global,
     spec: &Spec,
     computation: &Computation<'_>,
@@ -136,6 +154,7 @@ pub(crate) fn all_early<'a>(
     let mut left = Vec::new(alloc);
     let mut path = None;
     for i in 0..asked.len() {
+        announce(crew, spec, i);
         each.push(early_of(alloc, spec, computation, &asked[i], &mut path, &mut left)?)?;
     }
     Ok(AllEarly { each, left })

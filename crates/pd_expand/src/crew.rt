@@ -120,6 +120,11 @@ impl<'a, 'b, T: Threads + Wait + Sync, G: Gate + Sync> Crew<'a, 'b, T, G> {
         self.gate.reach(level);
     }
 
+    /// Says at the gate that a predicate is answered beyond the width: which one, counted from 1, and of how many.
+    pub fn ask(&self, number: u64, count: u64) {
+        self.gate.ask(number, count);
+    }
+
     /// Of each cut of the level whether the predicate is true at its state, in the order of the cuts.
     ///
     /// # Errors

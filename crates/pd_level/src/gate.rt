@@ -1,4 +1,4 @@
-//! What a worker passes before it expands a block of cuts, and what hears how far a walk has come.
+//! What a worker passes before it expands a block of cuts, and what hears how far a judgement has come.
 
 /// A level that a walk has come to.
 #[derive(Clone, Copy)]
@@ -13,13 +13,17 @@ pub struct Reached {
     pub is_whole: bool,
 }
 
-/// A gate that a worker calls before it expands a block of cuts, and a walk at each level that it comes to.
+/// A gate that a worker calls before it expands a block of cuts, a walk at each level that it comes to, and who answers
+/// predicates beyond the width at each of them.
 pub trait Gate {
     /// Called before the block with this number, from 0, is expanded.
     fn pass(&self, block: u64);
 
     /// Called once a walk has come to a level.
     fn reach(&self, _level: Reached) {}
+
+    /// Called before a predicate is answered beyond the width: which one, counted from 1, and of how many.
+    fn ask(&self, _number: u64, _count: u64) {}
 }
 
 /// A gate that lets every block pass at once.

@@ -5,7 +5,7 @@ use Rattle.pd_engine.proofs.WalkAnswers.{early_pushed}
 use Rattle.pd_engine.proofs.early.all_early.Goals as goal
 
 pub loop-i-preserved : goal.loop-i-preserved
-loop-i-preserved c = record {
+loop-i-preserved g c = record {
   one_each = ap length c.in_ok-push.ensures.items
       ∙ (length-append c.loop-i.each.items (c.in_ok-early_of.field-0 ∷ [])
       ∙ ap (λ n. n + 1) c.loop-i.invariant.one_each);

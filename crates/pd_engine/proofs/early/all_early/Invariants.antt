@@ -8,7 +8,7 @@ use Rattle.pd_spec.specs.declared.named.NamedPred.{NamedPred}
 use Rattle.pd_engine.proofs.early.all_early.Given as goal
 
 abbrev pub invariant-loop-i : goal.invariant-loop-i
-invariant-loop-i l = record {
+invariant-loop-i g l = record {
   one_each : length l.each.items ≡ l.i;
   right : (j : ℕ) (named : NamedPred) (early : Early) → j < l.i
       → IsEarly (document_view l.spec) l.computation l.left.items (get_or l.asked j named)
