@@ -2,14 +2,16 @@
 use pd_engine::Reached;
 use std::sync::atomic::{AtomicBool, AtomicU64, Ordering};
 
-/// Nobody writes, and the run isn't ended.
-const FREE: u64 = 0;
-
-/// The run has begun to write.
-const WRITING: u64 = 1;
-
-/// The run is ended before its time.
-const ENDED: u64 = 2;
+/// Who may write.
+#[derive(Clone, Copy)]
+enum Turn {
+    /// Nobody writes, and the run isn't ended.
+    Free,
+    /// The run has begun to write.
+    Writing,
+    /// The run is ended before its time.
+    Ended,
+}
 
 /// How far a run has come. Its threads note that, and others may look.
 #[derive(Drop)]
@@ -35,7 +37,7 @@ pub struct Progress {
     pub(crate) predicate: AtomicU64,
     /// How many predicates there are.
     pub(crate) predicates: AtomicU64,
-    /// `FREE`, `WRITING` or `ENDED`.
+    /// The number of a `Turn`.
     turn: AtomicU64,
 }
 
@@ -53,7 +55,7 @@ impl Progress {
             cuts: AtomicU64::new(0),
             predicate: AtomicU64::new(0),
             predicates: AtomicU64::new(0),
-            turn: AtomicU64::new(FREE),
+            turn: AtomicU64::new(Turn::Free as u64),
         }
     }
 
@@ -99,31 +101,36 @@ impl Progress {
         }
     }
 
+    /// Takes the turn, if nobody has it; if somebody has, it gives the number of that.
+    fn take_turn(&self, turn: Turn) -> Result<u64, u64> {
+        self.turn.compare_exchange(
+            Turn::Free as u64,
+            turn as u64,
+            Ordering::SeqCst,
+            Ordering::SeqCst,
+        )
+    }
+
     /// Whether the run may write: it does from now on, and isn't ended any more before its time.
     pub(crate) fn may_write(&self) -> bool {
-        match self
-            .turn
-            .compare_exchange(FREE, WRITING, Ordering::SeqCst, Ordering::SeqCst)
-        {
+        match self.take_turn(Turn::Writing) {
             Ok(_) => true,
-            Err(found) => found == WRITING,
+            Err(found) => found == Turn::Writing as u64,
         }
     }
 
     /// What the run has written is whole so far, and it may be ended.
     pub(crate) fn pause(&self) {
-        self.turn.store(FREE, Ordering::SeqCst);
+        self.turn.store(Turn::Free as u64, Ordering::SeqCst);
     }
 
     /// Whether the run is ended before its time: it is from now on, unless it writes.
     pub(crate) fn may_end(&self) -> bool {
-        self.turn
-            .compare_exchange(FREE, ENDED, Ordering::SeqCst, Ordering::SeqCst)
-            .is_ok()
+        self.take_turn(Turn::Ended).is_ok()
     }
 
     /// Whether the run is ended before its time.
     pub(crate) fn is_ended(&self) -> bool {
-        self.turn.load(Ordering::SeqCst) == ENDED
+        self.turn.load(Ordering::SeqCst) == Turn::Ended as u64
     }
 }
