@@ -1,7 +1,7 @@
 -- What columns add, one column after another.
-use Rattle.std.proofs.Common.{◌≡◌, ℕ, ◌+◌, ◌<◌, List, [], ◌∷◌, ◌++◌, length, get_or, drop, ap, sym, ◌∙◌, ◌+ℤ◌, arith}
+use Rattle.std.proofs.Common.{◌≡◌, ℕ, ℤ, pos, ◌+◌, ◌<◌, ◌≤◌, ◌⊎◌, inl, inr, List, [], ◌∷◌, ◌++◌, length, get_or, drop, ap, sym, ◌∙◌, ◌+ℤ◌, arith}
 use Rattle.std.proofs.lemmas.Int.{ints}
-use Rattle.std.proofs.lemmas.List.{at_drop_more}
+use Rattle.std.proofs.lemmas.List.{at_drop_more, get_or_default, get_or_past}
 use Rattle.walk_tables.specs.Tables.{columns_value, table_at}
 use Rattle.walk_tables.specs.declared.linear.Column.{Column}
 
@@ -18,3 +18,18 @@ pub columns_push : (columns : List Column) (column : Column) (counts : List ℕ)
     ≡ columns_value columns counts +ℤ table_at column.table (get_or counts column.process 0)
 columns_push [] column counts = omega (arith, ints)
 columns_push (first ∷ rest) column counts = omega (arith, ints, columns_push rest column counts)
+
+-- lists of one length that are the same at each place
+pub same_numbers : (first second : List ℤ) → length first ≡ length second
+    → ((k : ℕ) → k < length first → get_or first k (pos 0) ≡ get_or second k (pos 0))
+    → (n : ℕ) (d : ℤ) → get_or first n d ≡ get_or second n d
+same_numbers first second long same n d = go compare
+  where
+    compare : (n < length first) ⊎ (length first ≤ n)
+    compare = grind arith
+
+    go : ((n < length first) ⊎ (length first ≤ n)) → get_or first n d ≡ get_or second n d
+    go (inl lt) =
+        get_or_default first n d (pos 0) lt ∙ same n lt
+        ∙ sym (get_or_default second n d (pos 0) (omega (arith, long, lt)))
+    go (inr le) = get_or_past first n d le ∙ sym (get_or_past second n d (omega (arith, long, le)))

@@ -9,3 +9,5 @@ pub mod Differences
 pub mod Compiles
 pub mod Conjunctions
 pub mod Chains
+pub mod Ascents
+pub mod Sets

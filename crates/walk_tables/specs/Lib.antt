@@ -4,6 +4,8 @@ pub mod Parts
 pub mod Tables
 pub mod Rows
 pub mod Clauses
+pub mod Points
+pub mod Choices
 pub mod Series
 pub mod Nodes
 pub mod Views

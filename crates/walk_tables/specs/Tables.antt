@@ -26,6 +26,12 @@ linear_value linear prefix x y =
 abbrev pub linear_holds : Linear → List ℕ → ℕ → ℕ → Bool
 linear_holds linear prefix x y = compares_with_zero linear.comparison (linear_value linear prefix x y)
 
+-- the sums of two comparisons differ by their constants alone
+abbrev pub IsSameSum : Linear → Linear → Type 0
+IsSameSum first second =
+    (prefix : List ℕ) (x y : ℕ)
+    → linear_value first prefix x y -ℤ first.constant ≡ linear_value second prefix x y -ℤ second.constant
+
 -- the table has what process p adds to the difference of two sums, by the count of its events
 abbrev pub IsTableOf : Recorded → List (Sign × Term) → List (Sign × Term) → ℕ → Table → Type 0
 IsTableOf r left right p table =

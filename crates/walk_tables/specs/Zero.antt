@@ -1,5 +1,5 @@
 -- How a sum is compared with 0.
-use Rattle.std.specs.Prelude.{ℕ, ◌≤◌, ◌^◌, Bool, not, cond, ℤ, pos, ◌≤ℤ◌, ◌&&◌, ◌||◌}
+use Rattle.std.specs.Prelude.{ℕ, ◌≤◌, ◌^◌, List, [], ◌∷◌, Bool, not, cond, ℤ, pos, ◌≤ℤ◌, ◌&&◌, ◌||◌}
 use Rattle.std.specs.Int.RustNames.{unsigned_abs}
 use Rattle.def_model.specs.Predicates as model
 use Rattle.pd_pred.specs.declared.tree.Comparison.{Comparison}
@@ -26,3 +26,8 @@ turned negated truth = cond negated (not truth) truth
 -- both or one of two truths
 abbrev pub joined : Bool → Bool → Bool → Bool
 joined is_and first second = cond is_and (first && second) (first || second)
+
+-- all truths of a list's elements, or one of them
+abbrev pub all_joined : {T : Type 0} → Bool → (T → Bool) → List T → Bool
+all_joined is_and holds [] = is_and
+all_joined is_and holds (first ∷ rest) = joined is_and (holds first) (all_joined is_and holds rest)

@@ -7,7 +7,7 @@ ghost use Rattle.std.specs.Prelude.{◌≡◌, ℕ, ◌≤◌, IfOk, List, lengt
 
 use super::build::linear_of;
 use super::clause::clause_of;
-use super::join::join;
+use super::join::{join, spare_bytes};
 use super::linear::Linear;
 use super::node::Node;
 use super::zero::turned_comparison;
@@ -123,6 +123,7 @@ pub(crate) fn compile<'a>(
         }
         _ => {
             let node = leaf(alloc, computation, tree, negated, room)?;
+            *room = room.saturating_add(spare_bytes(rest.is_and, &node, &rest.node));
             join(alloc, rest.is_and, node, rest.node)
         }
     }

@@ -59,7 +59,63 @@ fn pair<'a>(
     }
 }
 
-/// A comparison by tables joined with a predicate. Comparisons that are joined in one way stand in one list.
+/// A comparison by tables joined with a part of a chain. Comparisons that are joined in one way stand in one list.
+fn with_part<'a>(
+    alloc: Global,
+    is_and: bool,
+    first: Linear,
+    part: Node<'a>,
+) -> Result<Node<'a>, AllocError>
+    ensures { IfOk result (λ node. (r : Recorded) (prefix : List ℕ) (x y : ℕ) → node_holds r node prefix x y
+        ≡ joined is_and (linear_holds first prefix x y) (node_holds r part.entry prefix x y)) }
+{
+    match part {
+        Node::Compare(second) => {
+            let series = Series::one(alloc, is_and, second)?;
+            let series = series.with(alloc, first)?;
+            Ok(Node::Several(series))
+        }
+        Node::Several(series) => if series.is_and == is_and {
+            let series = series.with(alloc, first)?;
+            Ok(Node::Several(series))
+        } else {
+            pair(alloc, is_and, Node::Compare(first), Node::Several(series))
+        },
+        part => pair(alloc, is_and, Node::Compare(first), part),
+    }
+}
+
+/// Whether further comparisons by tables can stand in one list with this part of a chain.
+fn takes_linears(is_and: bool, part: &Node<'_>) -> bool {
+    match part {
+        Node::Compare(_) => true,
+        Node::Several(series) => series.is_and == is_and,
+        _ => false,
+    }
+}
+
+/// A comparison by tables joined with a chain of two parts.
+fn with_linear_in<'a>(
+    alloc: Global,
+    is_and: bool,
+    first: Linear,
+    part: Node<'a>,
+    rest: Node<'a>,
+) -> Result<Node<'a>, AllocError>
+    ensures { IfOk result (λ node. (r : Recorded) (prefix : List ℕ) (x y : ℕ) → node_holds r node prefix x y
+        ≡ joined is_and (linear_holds first prefix x y)
+        (joined is_and (node_holds r part.entry prefix x y) (node_holds r rest.entry prefix x y))) }
+{
+    if takes_linears(is_and, &part) {
+        let part = with_part(alloc, is_and, first, part)?;
+        pair(alloc, is_and, part, rest)
+    } else {
+        let chain = pair(alloc, is_and, part, rest)?;
+        pair(alloc, is_and, Node::Compare(first), chain)
+    }
+}
+
+/// A comparison by tables joined with a predicate.
 fn with_linear<'a>(
     alloc: Global,
     is_and: bool,
@@ -70,21 +126,148 @@ fn with_linear<'a>(
         ≡ joined is_and (linear_holds first prefix x y) (node_holds r right.entry prefix x y)) }
 {
     match right {
-        Node::Compare(second) => {
-            let series = Series::two(alloc, is_and, first, second)?;
-            Ok(Node::Several(series))
-        }
-        Node::Several(series) => if series.is_and == is_and {
-            let series = series.with(first)?;
-            Ok(Node::Several(series))
+        Node::And(part, rest) => if is_and {
+            with_linear_in(
+                alloc,
+                true,
+                first,
+                Box::into_inner(part),
+                Box::into_inner(rest),
+            )
         } else {
-            pair(alloc, is_and, Node::Compare(first), Node::Several(series))
+            pair(alloc, false, Node::Compare(first), Node::And(part, rest))
         },
-        right => pair(alloc, is_and, Node::Compare(first), right),
+        Node::Or(part, rest) => if is_and {
+            pair(alloc, true, Node::Compare(first), Node::Or(part, rest))
+        } else {
+            with_linear_in(
+                alloc,
+                false,
+                first,
+                Box::into_inner(part),
+                Box::into_inner(rest),
+            )
+        },
+        right => with_part(alloc, is_and, first, right),
     }
 }
 
-/// Both predicates, or one of them: the first one is asked first.
+/// A part joined with a chain of two parts: comparisons by tables stay the first part.
+fn behind_linears<'a>(
+    alloc: Global,
+    is_and: bool,
+    left: Node<'a>,
+    part: Node<'a>,
+    rest: Node<'a>,
+) -> Result<Node<'a>, AllocError>
+    ensures { IfOk result (λ node. (r : Recorded) (prefix : List ℕ) (x y : ℕ) → node_holds r node prefix x y
+        ≡ joined is_and (node_holds r left.entry prefix x y)
+        (joined is_and (node_holds r part.entry prefix x y) (node_holds r rest.entry prefix x y))) }
+{
+    if takes_linears(is_and, &part) {
+        let rest = pair(alloc, is_and, left, rest)?;
+        pair(alloc, is_and, part, rest)
+    } else {
+        let chain = pair(alloc, is_and, part, rest)?;
+        pair(alloc, is_and, left, chain)
+    }
+}
+
+/// A part that is no comparison by tables joined with a predicate, whose comparisons by tables come first.
+fn after_linears<'a>(
+    alloc: Global,
+    is_and: bool,
+    left: Node<'a>,
+    right: Node<'a>,
+) -> Result<Node<'a>, AllocError>
+    ensures { IfOk result (λ node. (r : Recorded) (prefix : List ℕ) (x y : ℕ) → node_holds r node prefix x y
+        ≡ joined is_and (node_holds r left.entry prefix x y) (node_holds r right.entry prefix x y)) }
+{
+    match right {
+        Node::And(part, rest) => if is_and {
+            behind_linears(
+                alloc,
+                true,
+                left,
+                Box::into_inner(part),
+                Box::into_inner(rest),
+            )
+        } else {
+            pair(alloc, false, left, Node::And(part, rest))
+        },
+        Node::Or(part, rest) => if is_and {
+            pair(alloc, true, left, Node::Or(part, rest))
+        } else {
+            behind_linears(
+                alloc,
+                false,
+                left,
+                Box::into_inner(part),
+                Box::into_inner(rest),
+            )
+        },
+        right => pair(alloc, is_and, left, right),
+    }
+}
+
+/// How many bytes of tables are no longer needed once both are joined: those of a comparison of a sum that the other
+/// predicate has. It is a measure, and nothing is promised of it.
+pub(crate) fn spare_bytes(is_and: bool, left: &Node<'_>, right: &Node<'_>) -> usize {
+    match left {
+        Node::Compare(linear) => if has_sum_of(is_and, linear, right) {
+            linear.bytes()
+        } else {
+            0
+        },
+        _ => 0,
+    }
+}
+
+/// Whether a part of a chain has a comparison of the sum that this one has, with which it is joined.
+fn part_has_sum(is_and: bool, linear: &Linear, part: &Node<'_>) -> bool {
+    match part {
+        Node::Compare(other) => other.has_sum_of(linear),
+        Node::Several(series) => series.is_and == is_and && series.has_sum_of(linear),
+        _ => false,
+    }
+}
+
+/// Whether the first part of a chain has a comparison of the sum that this one has.
+fn first_has_sum(is_and: bool, linear: &Linear, node: &Node<'_>) -> bool {
+    match node {
+        Node::And(part, _) => is_and && part_has_sum(is_and, linear, part),
+        Node::Or(part, _) => !is_and && part_has_sum(is_and, linear, part),
+        node => part_has_sum(is_and, linear, node),
+    }
+}
+
+/// Whether the predicate is clauses, and no more.
+fn is_clauses(node: &Node<'_>) -> bool {
+    match node {
+        Node::Conjunction(_) => true,
+        _ => false,
+    }
+}
+
+/// `first_has_sum` of the chain of these parts, where clauses are passed over that stand first.
+fn chain_has_sum(is_and: bool, linear: &Linear, part: &Node<'_>, rest: &Node<'_>) -> bool {
+    if is_clauses(part) {
+        first_has_sum(is_and, linear, rest)
+    } else {
+        part_has_sum(is_and, linear, part)
+    }
+}
+
+/// Whether the comparison, joined with the predicate, is made together with one of its sum.
+fn has_sum_of(is_and: bool, linear: &Linear, node: &Node<'_>) -> bool {
+    match node {
+        Node::And(part, rest) => is_and && chain_has_sum(is_and, linear, part, rest),
+        Node::Or(part, rest) => !is_and && chain_has_sum(is_and, linear, part, rest),
+        node => part_has_sum(is_and, linear, node),
+    }
+}
+
+/// Both predicates, or one of them: comparisons by tables are asked first, and then the first one.
 fn in_turn<'a>(
     alloc: Global,
     is_and: bool,
@@ -96,7 +279,7 @@ fn in_turn<'a>(
 {
     match left {
         Node::Compare(linear) => with_linear(alloc, is_and, linear, right),
-        left => pair(alloc, is_and, left, right),
+        left => after_linears(alloc, is_and, left, right),
     }
 }
 

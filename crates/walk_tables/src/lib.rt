@@ -59,12 +59,19 @@
 //! - `zero`: how a sum is compared with 0
 //! - `run_state`: the state at a cut of a run
 //! - `series`: a chain of comparisons by tables
+//! - `choices`: choices that are joined in one way
+//! - `choice`: comparisons of one sum, which are made together
+//! - `allowed`: a set of numbers, as comparisons with constants make it
+//! - `points`: a set of single numbers
 //! - `size`: how many comparisons a compiled predicate has
 //! - `bits`: truths that are put into a word
 #![tactic(auto)]
 
+mod allowed;
 mod bits;
 mod build;
+mod choice;
+mod choices;
 mod clause;
 mod clause_column;
 mod clauses;
@@ -75,6 +82,7 @@ mod join;
 mod linear;
 mod node;
 mod parts;
+mod points;
 mod row;
 mod run_state;
 mod series;

@@ -4,6 +4,7 @@ ghost use Rattle.walk_tables.specs.Zero.{IsSmall};
 ghost use Rattle.std.specs.Prelude.{◌≡◌, ◌≤◌, slice_index, vec_len};
 
 use super::bits::{all_or_none, put};
+use super::parts::NUMBER_BYTES;
 use super::table::Table;
 use super::zero::{decided, holds_at_zero};
 use pd_pred::Comparison;
@@ -31,14 +32,14 @@ pub(crate) struct Linear {
 impl Linear {
     ghost use Rattle.def_format.specs.Limits.{event_limit, process_limit};
     ghost use Rattle.walk_keys.specs.Words.{has_bit};
-    ghost use Rattle.walk_tables.specs.Tables.{columns_value, linear_holds};
+    ghost use Rattle.walk_tables.specs.Tables.{IsSameSum, columns_value, linear_holds, linear_value};
     ghost use Rattle.walk_tables.specs.Zero.{IsBetween, part_limit};
     ghost use Rattle.std.specs.Int.RustNames.{unsigned_abs};
-    ghost use Rattle.std.specs.Prelude.{◌≡◌, ℕ, ◌+◌, ◌-◌, ◌*◌, ◌<◌, ◌≤◌, ◌+ℤ◌, List, IfSome, false, true};
+    ghost use Rattle.std.specs.Prelude.{◌≡◌, ℕ, ◌+◌, ◌-◌, ◌*◌, ◌<◌, ◌≤◌, ◌+ℤ◌, List, IfSome, IsTrue, false, true};
 
     /// The constant and what the first processes add.
     #[inline(always)]
-    fn base(&self, prefix: &[u64]) -> i64
+    pub(crate) fn base(&self, prefix: &[u64]) -> i64
         ensures value { result ≡ self.now.constant +ℤ columns_value self.now.columns.items prefix.now }
         ensures small { unsigned_abs result ≤ (process_limit + 1) * part_limit }
     {
@@ -148,6 +149,85 @@ impl Linear {
             least + self.across.least + self.down.least,
             greatest + self.across.greatest + self.down.greatest,
         )
+    }
+
+    /// The sum at the cut with these counts of the last two processes, where the constant and the first processes add
+    /// up to `base`.
+    #[inline(always)]
+    pub(crate) fn sum_after(&self, base: i64, x: u64, y: u64) -> i64
+        requires { unsigned_abs base ≤ (process_limit + 1) * part_limit }
+        ensures { (prefix : List ℕ) → base ≡ self.now.constant +ℤ columns_value self.now.columns.items prefix
+            → result ≡ linear_value self.now prefix x y }
+    {
+        base + self.across.at(x) + self.down.at(y)
+    }
+
+    /// The least and the greatest that the sum can be where the constant and the first processes add up to `base`.
+    #[inline(always)]
+    pub(crate) fn range_after(&self, base: i64) -> (i64, i64)
+        requires { unsigned_abs base ≤ (process_limit + 1) * part_limit }
+        ensures { (prefix : List ℕ) (x y : ℕ)
+            → base ≡ self.now.constant +ℤ columns_value self.now.columns.items prefix
+            → IsBetween result.0 result.1 (linear_value self.now prefix x y) }
+    {
+        (
+            base + self.across.least + self.down.least,
+            base + self.across.greatest + self.down.greatest,
+        )
+    }
+
+    /// The least and the greatest that the sum can be.
+    pub(crate) fn whole_range(&self) -> (i64, i64)
+        ensures { (prefix : List ℕ) (x y : ℕ) → IsBetween result.0 result.1 (linear_value self.now prefix x y) }
+    {
+        let (least, greatest) = self.range();
+        (
+            least + self.across.least + self.down.least,
+            greatest + self.across.greatest + self.down.greatest,
+        )
+    }
+
+    /// Whether the tables of the other comparison have the same numbers, so that the sums differ by the constants
+    /// alone. False isn't sure.
+    pub(crate) fn has_sum_of(&self, other: &Linear) -> bool
+        ensures { IsTrue result → IsSameSum self.now other.now }
+    {
+        if !self.across.is_same(&other.across) {
+            return false;
+        }
+        if !self.down.is_same(&other.down) {
+            return false;
+        }
+        Linear::have_same(&self.columns, &other.columns)
+    }
+
+    /// Whether the columns are of the same processes and have the same numbers. False isn't sure.
+    fn have_same(first: &[Column], second: &[Column]) -> bool
+        ensures { IsTrue result → (counts : List ℕ) → columns_value first.now counts ≡ columns_value second.now counts }
+    {
+        if first.len() != second.len() {
+            return false;
+        }
+        for i in 0..first.len() {
+            let one = &first[i];
+            let other = &second[i];
+            if one.process != other.process {
+                return false;
+            }
+            if !one.table.is_same(&other.table) {
+                return false;
+            }
+        }
+        true
+    }
+
+    /// How many bytes the tables take.
+    pub(crate) fn bytes(&self) -> usize {
+        let mut numbers = self.across.len().saturating_add(self.down.len());
+        for column in &self.columns {
+            numbers = numbers.saturating_add(column.table.len());
+        }
+        numbers.saturating_mul(NUMBER_BYTES)
     }
 
     /// How much work the comparison is, by the processes that it speaks of.

@@ -22,7 +22,7 @@ use pd_pred::{Sign, SignedTerm, Term};
 use std::alloc::{AllocError, Global};
 
 /// How many bytes a number of a table takes.
-const NUMBER_BYTES: usize = 8;
+pub(crate) const NUMBER_BYTES: usize = 8;
 
 /// Whether the terms speak of none but the first processes.
 pub(crate) fn speak_below(terms: &[SignedTerm], processes: usize) -> bool

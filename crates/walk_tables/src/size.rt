@@ -18,7 +18,7 @@ pub(crate) fn comparisons(node: &Node<'_>) -> u64 {
     match node {
         Node::Constant(_) => 0,
         Node::Compare(_) | Node::Conjunction(_) => 1,
-        Node::Several(series) => series.len() as u64,
+        Node::Several(series) => series.comparisons(),
         Node::Direct { tree, negated: _ } => comparisons_in(tree),
         Node::And(left, right) | Node::Or(left, right) => comparisons(left).saturating_add(
             comparisons(right),

@@ -1,6 +1,6 @@
 //! A number for each count of a process.
 ghost use Rattle.walk_tables.specs.Zero.{IsBetween, IsSmall};
-ghost use Rattle.std.specs.Prelude.{ℕ, ◌≤ℤ◌, slice_index_or};
+ghost use Rattle.std.specs.Prelude.{◌≡◌, ℕ, ℤ, ◌≤ℤ◌, IsTrue, slice_index_or};
 
 /// No number of a table is further from 0: the sum of one for each process and a constant then fits 64 bits.
 pub(crate) const PART_LIMIT: i128 = 288_230_376_151_711_744;
@@ -34,6 +34,21 @@ fn greater(a: i64, b: i64) -> i64
     ensures small { IsSmall a → IsSmall b → IsSmall result }
 {
     if b > a { b } else { a }
+}
+
+/// Whether both are the same numbers.
+fn are_same(first: &[i64], second: &[i64]) -> bool
+    ensures { IsTrue result → (n : ℕ) (d : ℤ) → slice_index_or first.now n d ≡ slice_index_or second.now n d }
+{
+    if first.len() != second.len() {
+        return false;
+    }
+    for i in 0..first.len() {
+        if first[i] != second[i] {
+            return false;
+        }
+    }
+    true
 }
 
 impl Table {
@@ -90,6 +105,19 @@ impl Table {
         } else {
             self.beyond
         }
+    }
+
+    /// Whether the other table has the same number at each count. False isn't sure.
+    pub(crate) fn is_same(&self, other: &Table) -> bool
+        ensures { IsTrue result → (n : ℕ) → table_at self.now n ≡ table_at other.now n }
+    {
+        if self.least != other.least || self.greatest != other.greatest {
+            return false;
+        }
+        if self.beyond != other.beyond {
+            return false;
+        }
+        are_same(&self.values, &other.values)
     }
 
     /// Whether the least number is the greatest. Then the table has the same number at each count.

@@ -5,5 +5,5 @@ use Rattle.walk_tables.proofs.series.Series.holds_at.Given as goal
 
 abbrev pub invariant-loop-i : goal.invariant-loop-i
 invariant-loop-i l =
-    parts_hold l.self.is_and (drop (length l.self.parts.items - l.i) l.self.parts.items) l.prefix l.x l.y
-    ≡ l.self.is_and
+    parts_hold l.self.is_and (drop (length l.self.parts.items - l.i) l.self.parts.items) l.prefix l.x l.y ≡
+    l.self.is_and

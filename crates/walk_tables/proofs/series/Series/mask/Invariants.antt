@@ -7,7 +7,7 @@ use Rattle.walk_tables.proofs.series.Series.mask.Given as goal
 abbrev pub invariant-loop-i : goal.invariant-loop-i
 invariant-loop-i l = record {
   within : (j : ℕ) → j < l.n → has_bit l.found j
-      ≡ parts_hold l.self.is_and (drop (length l.self.parts.items - l.i) l.self.parts.items) l.prefix (l.x + j)
-      (l.y - j);
+      ≡ parts_hold l.self.is_and (drop (length l.self.parts.items - l.i) l.self.parts.items) l.prefix (l.x + j) (l.y
+      - j);
   beyond : (j : ℕ) → l.n ≤ j → has_bit l.found j ≡ false;
 }

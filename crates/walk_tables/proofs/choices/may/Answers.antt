@@ -1,0 +1,29 @@
+-- A choice decides the chain, or is like the others.
+use Rattle.std.proofs.Common.{refl, ◌≡◌, ◌∙◌, ◌-◌, length, get_or, ap, sym, false, arith, rules}
+use Rattle.walk_tables.specs.Choices.{choice_holds}
+use Rattle.walk_tables.specs.declared.choice.Choice.{Choice}
+use Rattle.walk_tables.proofs.Chains.{agrees, asked_next, differs, joined_same, part_decides}
+use Rattle.walk_tables.proofs.choices.may.Goals as goal
+
+pub returns-then-may-is_and : goal.returns-then-may-is_and
+returns-then-may-is_and c turned x y =
+    let parts = c.args.choices.now in
+    let part = c.index-choices-count.result in
+    let m = length parts - 1 - c.loop-i.i in
+    let is : part ≡ get_or parts m part = search rules in
+    part_decides c.args.is_and (λ (l : Choice). choice_holds l c.args.prefix.now x y) parts m part
+    (omega (arith, c.loop-i-test.true))
+    (ap (λ (l : Choice). choice_holds l c.args.prefix.now x y) (sym is)
+    ∙ c.may.ensures (differs c.may.result c.args.is_and c.if-may-is_and.true ∙ turned) x y
+    ∙ sym turned)
+    ∙ turned
+
+pub loop-i-preserved : goal.loop-i-preserved
+loop-i-preserved c same x y =
+    let parts = c.args.choices.now in
+    let part = c.index-choices-count.result in
+    let is : part ≡ get_or parts (length parts - 1 - c.loop-i.i) part = search rules in
+    let alike = agrees c.may.result c.args.is_and c.if-may-is_and.false in
+    sym (asked_next c.args.is_and (λ (l : Choice). choice_holds l c.args.prefix.now x y) parts c.loop-i.i (length parts)
+    part false false false refl c.loop-i-test.true is (sym (c.may.ensures (alike ∙ same) x y))
+    (sym (c.loop-i.invariant same x y)) (sym (joined_same c.args.is_and false)))
