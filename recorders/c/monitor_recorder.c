@@ -46,6 +46,7 @@ typedef struct {
     char host[256];
     char port[6];
     double seconds; /* for which somebody is waited for who listens there */
+    char *token;    /* with which a connection begins, and its LF; NULL if there is none */
 } listener;
 
 /* A line, in an array that has room for it. */
@@ -895,25 +896,76 @@ static int connection_within(const listener *where)
     }
 }
 
-static monitor_status to_listener(const char *process, const listener *where, int options, monitor_recorder **made)
+/* Puts this token or, without one, that of MONITOR_TOKEN into `where`, with its LF: it has to be freed. */
+static monitor_status put_token(const char *token, listener *where)
+{
+    if (token == NULL || token[0] == '\0')
+        token = getenv("MONITOR_TOKEN");
+    where->token = NULL;
+    if (token == NULL || token[0] == '\0')
+        return MONITOR_RECORDED;
+    size_t size = strlen(token);
+    if (size > MONITOR_TOKEN_BYTE_LIMIT || strpbrk(token, "\n\r") != NULL)
+        return MONITOR_TOKEN;
+    where->token = malloc(size + 2);
+    if (where->token == NULL)
+        return MONITOR_SYSTEM;
+    memcpy(where->token, token, size);
+    strcpy(where->token + size, "\n");
+    return MONITOR_RECORDED;
+}
+
+/* A connection that has begun with the token; -1 with errno if there is none. */
+static int connection_with_token(const listener *where)
+{
+    int connection = connection_within(where);
+    size_t done = 0, size = connection < 0 || where->token == NULL ? 0 : strlen(where->token);
+    while (done < size) {
+        ssize_t taken = send(connection, where->token + done, size - done, MSG_NOSIGNAL);
+        if (taken < 0 && errno != EINTR) {
+            int reason = errno;
+            close(connection);
+            errno = reason;
+            return -1;
+        }
+        done += taken < 0 ? 0 : (size_t)taken;
+    }
+    return connection;
+}
+
+static monitor_status to_listener(const char *process, listener *where, const char *token, int options,
+                                  monitor_recorder **made)
 {
     *made = NULL;
     if (!is_name(process))
         return MONITOR_PROCESS_NAME;
     if (!add_long(&options) || (options & MONITOR_LONG) != 0)
         return MONITOR_NOT_LONG;
-    int connection = connection_within(where);
-    monitor_status status = connection < 0 ? MONITOR_SYSTEM : over_own_descriptor(process, connection, made);
+    monitor_status status = put_token(token, where);
+    if (status != MONITOR_RECORDED)
+        return status;
+    int connection = connection_with_token(where);
+    status = connection < 0 ? MONITOR_SYSTEM : over_own_descriptor(process, connection, made);
+    int reason = errno;
     if (status == MONITOR_RECORDED)
         (*made)->where = *where;
+    else
+        free(where->token);
+    errno = reason;
     return status;
+}
+
+monitor_status monitor_to_port_with(const char *process, uint16_t port, double seconds, const char *token,
+                                    monitor_recorder **made)
+{
+    listener where = {.host = "127.0.0.1", .seconds = seconds};
+    snprintf(where.port, sizeof where.port, "%u", (unsigned)port);
+    return to_listener(process, &where, token, 0, made);
 }
 
 monitor_status monitor_to_port(const char *process, uint16_t port, double seconds, monitor_recorder **made)
 {
-    listener where = {.host = "127.0.0.1", .seconds = seconds};
-    snprintf(where.port, sizeof where.port, "%u", (unsigned)port);
-    return to_listener(process, &where, 0, made);
+    return monitor_to_port_with(process, port, seconds, NULL, made);
 }
 
 /* Whether the text has only these signs. */
@@ -1012,7 +1064,7 @@ monitor_status monitor_from_environment_with_at(const monitor_note *note, const 
     if (options < 0 || (!is_folder && (options & MONITOR_NOTES) != 0))
         return MONITOR_NO_NOTES;
     if (!is_folder)
-        return (options & MONITOR_AGAIN) != 0 ? MONITOR_NOT_AGAIN : to_listener(process, &where, options, made);
+        return (options & MONITOR_AGAIN) != 0 ? MONITOR_NOT_AGAIN : to_listener(process, &where, NULL, options, made);
     if (!add_long(&options))
         return MONITOR_NOT_LONG;
     if (mkdir(place, 0777) != 0 && errno != EEXIST)
@@ -1175,7 +1227,7 @@ static bool is_own_file(const monitor_recorder *root, const char *path)
 static int descriptor_for(const monitor_recorder *root, const char *name, int *notes)
 {
     if (root->folder == NULL)
-        return connection_within(&root->where);
+        return connection_with_token(&root->where);
     size_t room = strlen(root->folder) + strlen(name) + sizeof ending;
     char *path = malloc(room);
     if (path == NULL)
@@ -1335,6 +1387,7 @@ static monitor_status release(monitor_recorder *recorder, monitor_status status)
     forget_ids(&recorder->ids);
     free(recorder->strands);
     free(recorder->folder);
+    free(recorder->where.token);
     free(recorder);
     errno = reason;
     return status;
@@ -1419,6 +1472,9 @@ const char *monitor_text(monitor_status status)
         return "no long recording is made: MONITOR_LONG is 1 for one, and else 0 or not set; and none goes to a port or "
                "a socket, of MONITOR_TO or not, since monitor serve judges within the limits of a session: record to a "
                "folder, and reduce it by monitor_reduce.py";
+    case MONITOR_TOKEN:
+        return "no token: MONITOR_TOKEN, or the one that is given, is one line of at most 1,024 bytes, without LF, CR "
+               "and NUL";
     case MONITOR_NO_NOTES:
         return "no place for notes, which go beside a file whose name ends with .stream and to no port; MONITOR_NOTES is "
                "1 for notes, and else 0 or not set";

@@ -54,6 +54,8 @@ extern "C" {
 #define MONITOR_LONG_ID_BYTE_LIMIT 1024
 /* At most so many bytes has a note of its text, and of its place's file: what is longer is cut. */
 #define MONITOR_NOTE_BYTE_LIMIT 1024
+/* At most so many bytes has a token. */
+#define MONITOR_TOKEN_BYTE_LIMIT 1024
 /* The room that an id takes with the NUL after it. */
 #define MONITOR_ID_ROOM (MONITOR_ID_BYTE_LIMIT + 1)
 /* An array that is put an id into has this room at least: compilers of C warn of a shorter one, as of the text "x". */
@@ -100,7 +102,8 @@ typedef enum {
     MONITOR_NO_NOTES,      /* there is no place for notes, as at a port, or MONITOR_NOTES is neither 1 nor 0 */
     MONITOR_RUNNING,       /* an earlier incarnation of the process still runs */
     MONITOR_NOT_AGAIN,     /* no earlier incarnation can be told, as of a connection or of a file that is replaced */
-    MONITOR_NOT_LONG       /* a long recording goes to no monitor that listens, or MONITOR_LONG is neither 1 nor 0 */
+    MONITOR_NOT_LONG,      /* a long recording goes to no monitor that listens, or MONITOR_LONG is neither 1 nor 0 */
+    MONITOR_TOKEN          /* the token that is given, or MONITOR_TOKEN, is over 1,024 bytes, or has a LF or CR */
 } monitor_status;
 
 /* How a file is recorded to: these, joined by |, or 0. */
@@ -132,13 +135,19 @@ monitor_status monitor_to_file_with(const char *process, const char *path, int o
  * MONITOR_NOT_LONG, since a long recording is reduced before it is judged. */
 monitor_status monitor_to_port(const char *process, uint16_t port, double seconds, monitor_recorder **made);
 
+/* The same, with a token. Each connection begins with it, if there is one, as the line that `monitor serve --token`
+ * asks for: this text or, if that is NULL or empty, MONITOR_TOKEN in the environment. */
+monitor_status monitor_to_port_with(const char *process, uint16_t port, double seconds, const char *token,
+                                    monitor_recorder **made);
+
 /* Records to where MONITOR_TO in the environment says, so that no code changes between a test and a live session: to a
  * new file NAME.stream in a folder of this name, which is made if there is none; or to `monitor serve`, on a port of
  * this machine, of :7411 or localhost:7411, on one of another machine, of host:7411 or [fe80::1]:7411, or by a Unix
  * socket, of unix:/run/monitor.sock, for which ten seconds are waited. With MONITOR_NOTES=1 in the environment each
  * event gets a note beside the file. A connection has no place for notes, keeps no earlier incarnation, and is judged
  * within the limits of a session, so with one notes are MONITOR_NO_NOTES, MONITOR_AGAIN is MONITOR_NOT_AGAIN, and
- * MONITOR_LONG is MONITOR_NOT_LONG. What has a colon and no slash is no folder. */
+ * MONITOR_LONG is MONITOR_NOT_LONG. It begins with the token of MONITOR_TOKEN, as with that of monitor_to_port_with.
+ * What has a colon and no slash is no folder. */
 monitor_status monitor_from_environment(const char *process, monitor_recorder **made);
 
 /* The same, with options. */

@@ -102,11 +102,15 @@ public:
         });
     }
 
-    /* Records to `monitor serve` on a port of this machine, for which these seconds are waited. */
-    static Recorder to_port(const std::string &process, std::uint16_t port, double seconds = 10)
+    /* Records to `monitor serve` on a port of this machine, for which these seconds are waited. Each connection begins
+     * with the token, or with that of MONITOR_TOKEN if it is empty. */
+    static Recorder to_port(const std::string &process, std::uint16_t port, double seconds = 10,
+                            const std::string &token = {})
     {
-        return made(process,
-                    [&](monitor_recorder **to) { return monitor_to_port(process.c_str(), port, seconds, to); });
+        return made(process, [&](monitor_recorder **to) {
+            check_text(token, MONITOR_TOKEN);
+            return monitor_to_port_with(process.c_str(), port, seconds, token.c_str(), to);
+        });
     }
 
     /* Records to the folder, port or socket that MONITOR_TO names. */

@@ -109,7 +109,8 @@ static void answer_status(monitor_status status, const char *id)
         [MONITOR_PROCESSES] = "refused processes", [MONITOR_NO_PLACE] = "refused no-place",
         [MONITOR_NOT_ENDED] = "refused not-ended", [MONITOR_NO_NOTES] = "refused notes",
         [MONITOR_WHERE] = "refused place", [MONITOR_RUNNING] = "refused running",
-        [MONITOR_NOT_AGAIN] = "refused again", [MONITOR_NOT_LONG] = "refused long"};
+        [MONITOR_NOT_AGAIN] = "refused again", [MONITOR_NOT_LONG] = "refused long",
+        [MONITOR_TOKEN] = "refused token"};
     if (status != MONITOR_RECORDED && status != MONITOR_SYSTEM)
         refusal = monitor_text(status);
     answer(texts[status], status == MONITOR_RECORDED ? id : "");
@@ -234,6 +235,9 @@ static bool open_or_close(char **words)
         status = to_place(words, MONITOR_LONG);
     } else if (strcmp(words[0], "port") == 0) {
         status = monitor_to_port(text_of(words[1]), (uint16_t)atoi(words[2]), atof(words[3]), &recorder);
+    } else if (strcmp(words[0], "token-port") == 0) {
+        status = monitor_to_port_with(text_of(words[1]), (uint16_t)atoi(words[2]), atof(words[3]), text_of(words[4]),
+                                      &recorder);
     } else if (strcmp(words[0], "close") == 0) {
         if (recorder != NULL)
             monitor_abandon(recorder);

@@ -50,7 +50,7 @@ const char *word_of(monitor_status status)
         {MONITOR_PROCESSES, "processes"},       {MONITOR_NO_PLACE, "no-place"},
         {MONITOR_NOT_ENDED, "not-ended"},       {MONITOR_NO_NOTES, "notes"},
         {MONITOR_WHERE, "place"},               {MONITOR_RUNNING, "running"},
-        {MONITOR_NOT_AGAIN, "again"}, {MONITOR_NOT_LONG, "long"}};
+        {MONITOR_NOT_AGAIN, "again"}, {MONITOR_NOT_LONG, "long"}, {MONITOR_TOKEN, "token"}};
     return words.at(status);
 }
 
@@ -216,6 +216,9 @@ bool open(const Words &words)
     else if (words[0] == "port")
         process = Recorder::to_port(text_of(words[1]), static_cast<std::uint16_t>(std::stoi(words[2])),
                                     std::stod(words[3]));
+    else if (words[0] == "token-port")
+        process = Recorder::to_port(text_of(words[1]), static_cast<std::uint16_t>(std::stoi(words[2])),
+                                    std::stod(words[3]), text_of(words[4]));
     else
         return false;
     process_word = words[1];

@@ -252,6 +252,13 @@ void test_notes()
     CHECK(refusal([] { Recorder::to_file("left", "left", MONITOR_NOTES); }) == MONITOR_NO_NOTES);
 }
 
+void test_tokens()
+{
+    const std::string tokens[] = {std::string("a\0b", 3), "a\n", std::string(MONITOR_TOKEN_BYTE_LIMIT + 1, 'x')};
+    for (const std::string &token : tokens)
+        CHECK(refusal([&] { Recorder::to_port("left", 1, 0, token); }) == MONITOR_TOKEN);
+}
+
 void test_mutexes()
 {
     Recorder left = Recorder::to_file("left", "left.stream", MONITOR_REPLACE);
@@ -282,7 +289,7 @@ int main(int, char **words)
     if (words[1] == nullptr || chdir(words[1]) != 0)
         return 2;
     for (auto test : {test_a_recording, test_destruction, test_moves, test_strands, test_the_order_of_destruction,
-                      test_refusals, test_long_recordings, test_locks, test_notes, test_mutexes})
+                      test_refusals, test_long_recordings, test_locks, test_notes, test_tokens, test_mutexes})
         test();
     return failures != 0;
 }

@@ -31,6 +31,9 @@ BURST = 4000
 FILE_LIMIT = 1000
 JOIN, INSIDE, END = b'{"process":"left"}\n', b'{"set":{"inside":1}}\n', b'{"end":true}\n'
 SECONDS = 60
+# Tokens of connections: of MONITOR_TOKEN, which Java reads by the locale; one that a call is given; and the longest.
+TOKEN, OWN_TOKEN, LONGEST_TOKEN = 'the token: {"of":"all"} ', "été: {\"process\":\"left\"}", 1024 * "x"
+NO_TOKENS = ("secret\nof two", "secret\rof two", "secret\n", 205 * "secret", "secret" + 509 * "é" + "x")
 DOCUMENT = json.dumps({"processes": [{"name": "left", "vars": {"inside": 0}}, {"name": "right", "vars": {"inside": 0}}],
                        "predicates": [{"name": "both", "text": "left.inside == 1 and right.inside == 1"}]})
 STRANDED = json.dumps({"processes": [{"name": "left", "vars": {"x": 0}}, {"name": "worker", "vars": {"x": 0}}],
@@ -457,6 +460,68 @@ def see_connections(player, listener, place):
             see_text(others.read(), b'{"process":"worker"}\n{"recv":"left-1"}\n' + END)
 
 
+def with_a_token(players, folder):
+    """a token that each connection begins with, of MONITOR_TOKEN or of the call"""
+    path = os.path.join(folder, "monitor.sock")
+    with Listener() as listener, Listener(path=path) as by_path:
+        port, with_token = f"port left {listener.port} {SECONDS}", f"token-port left {listener.port} {SECONDS}"
+        with Player(players.words, {"MONITOR_TOKEN": TOKEN}) as player:
+            see_token(player, port, listener, TOKEN)
+            see_token(player, f"place left :{listener.port}", listener, TOKEN)
+            see_token(player, f"place left unix:{quote(path)}", by_path, TOKEN)
+            see_token(player, f"{with_token} {quote(OWN_TOKEN)}", listener, OWN_TOKEN)
+            see_token(player, f"{with_token} %", listener, TOKEN)
+            see_files_without_a_token(player, folder)
+        with Player(players.words, {"MONITOR_TOKEN": ""}) as player:
+            see_token(player, port, listener, "")
+            see_token(player, f"{with_token} %", listener, "")
+            see_token(player, f"{with_token} {LONGEST_TOKEN}", listener, LONGEST_TOKEN)
+        with Player(players.words, {"MONITOR_TOKEN": LONGEST_TOKEN}) as player:
+            see_token(player, f"place left localhost:{listener.port}", listener, LONGEST_TOKEN)
+
+
+def see_token(player, call, listener, token):
+    """Sees that what this call connects begins with the token, if there is one, and so does a strand's connection."""
+    begin = [f"{token}\n".encode()] if token else []
+    player.ask(call)
+    with listener.socket.accept()[0] as connection, connection.makefile("rb") as lines:
+        for line in [*begin, JOIN]:
+            see_text(lines.readline(), line)
+        player.ask("strand worker")
+        with listener.socket.accept()[0] as second, second.makefile("rb") as others:
+            for line in [*begin, b'{"process":"worker"}\n', b'{"recv":"left-1"}\n']:
+                see_text(others.readline(), line)
+            player.ask("end")
+            see_text(lines.read(), b'{"send":"left-1"}\n' + END)
+            see_text(others.read(), END)
+
+
+def see_files_without_a_token(player, folder):
+    """Sees that a token changes nothing of what goes to a file, by its name or in a folder."""
+    stream, made = Stream(folder, "left"), os.path.join(folder, "made")
+    for call, into in ((f"file left {stream.word()}", stream), (f"place left {quote(made)}", Stream(made, "left"))):
+        player.ask(call)
+        player.ask("end")
+        see_text(into.added(), JOIN + END)
+        os.unlink(into.path)
+
+
+def with_what_is_no_token(players, folder):
+    """a MONITOR_TOKEN that is no token, with which nothing is connected"""
+    with Listener() as listener:
+        for token in NO_TOKENS:
+            with Player(players.words, {"MONITOR_TOKEN": token}) as player:
+                for call in (f"port left {listener.port} {SECONDS}", f"place left :{listener.port}"):
+                    player.ask(call, "refused token")
+                    player.tell("said")
+                    said = player.answer()
+                    see("MONITOR_TOKEN" in said and "secret" not in said, f"what is said is {said}")
+                see(not select.select([listener.socket], [], [], 0)[0], "there is a connection")
+                player.ask("place left :0", "refused place")
+                see_token(player, f"token-port left {listener.port} {SECONDS} own", listener, "own")
+                see_files_without_a_token(player, folder)
+
+
 def has_ipv6():
     try:
         with socket.socket(socket.AF_INET6) as bound:
@@ -724,6 +789,7 @@ def served_with_a_strand(players, folder):
 TRIALS = [with_threads, with_strands, with_many_strands, by_the_environment, with_noted_threads, for_a_lock,
           killed_at_rest, killed_at_work, killed_with_notes, killed_and_started_again, started_beside_itself,
           lines_as_they_are_recorded,
-          strand_over_a_connection, without_an_end_over_a_connection, to_a_place, to_a_socket_that_comes_later,
+          strand_over_a_connection, without_an_end_over_a_connection, to_a_place, with_a_token, with_what_is_no_token,
+          to_a_socket_that_comes_later,
           killed_over_a_connection, gone, nobody_listens, listens_later, reads_late, at_the_limit_of_a_files_size,
           notes_at_the_limit_of_a_files_size, interrupted_by_signals, served, served_with_a_strand]

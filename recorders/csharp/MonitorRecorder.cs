@@ -47,7 +47,10 @@ namespace MonitorRecorder
         /// <summary>No earlier incarnation can be told, as of a connection.</summary>
         Again,
         /// <summary>A long recording goes to no connection, or MONITOR_LONG is neither 1 nor 0.</summary>
-        Long
+        Long,
+        /// <summary>The token that is given, or MONITOR_TOKEN, is over 1,024 bytes of UTF-8, or has a LF, CR, NUL or
+        /// U+FFFD.</summary>
+        Token
     }
 
     /// <summary>A call was refused and wrote nothing: its message says why.</summary>
@@ -127,6 +130,8 @@ namespace MonitorRecorder
         public const int LongProcessLimit = 4096;
         /// <summary>At most so many bytes of UTF-8 has the id of a message in a long recording.</summary>
         public const int LongIdByteLimit = 1024;
+        /// <summary>At most so many bytes of UTF-8 has a token.</summary>
+        public const int TokenByteLimit = 1024;
 
         private const int PortLimit = 65534;
         private const int SocketByteLimit = 107;
@@ -298,21 +303,22 @@ namespace MonitorRecorder
         /// <summary>Records to <c>monitor serve</c> on a port of this machine, 1 to 65,534, which may listen up to ten
         /// seconds later; if nobody does by then, it is an <see cref="IOException"/>. A later call waits while the
         /// monitor doesn't read. It is refused with MONITOR_LONG=1, since a long recording is reduced before it is
-        /// judged.</summary>
-        public static Recorder ToPort(string process, int port)
+        /// judged. Each connection begins with the token, if there is one, as the line that <c>monitor serve
+        /// --token</c> asks for: this text or, without it, MONITOR_TOKEN in the environment.</summary>
+        public static Recorder ToPort(string process, int port, string token = "")
         {
-            return ToPort(process, port, Patience);
+            return ToPort(process, port, Patience, token);
         }
 
         /// <summary>The same, with another time to wait for somebody who listens.</summary>
-        public static Recorder ToPort(string process, int port, TimeSpan patience)
+        public static Recorder ToPort(string process, int port, TimeSpan patience, string token = "")
         {
-            return ToAddress(process, Here, port, patience, "the port is " + port, false);
+            return ToAddress(process, Here, port, patience, "the port is " + port, token, false);
         }
 
         /// <summary>Records to the port of a host or, without a port, to a socket with this path.</summary>
         private static Recorder ToAddress(string process, string host, int port, TimeSpan patience, string said,
-            bool isLong)
+            string token, bool isLong)
         {
             CheckedProcess(process);
             if (IsLong(isLong))
@@ -320,8 +326,46 @@ namespace MonitorRecorder
                 throw Refused(Reason.Long, said + ", and monitor serve judges within the limits of a session: record a "
                     + "long run to a folder, and reduce it by monitor_reduce.py; MONITOR_LONG is 1 for one");
             }
-            Func<string, Stream> place = _ => ConnectionTo(host, port, patience);
+            byte[] line = TokenLine(token);
+            Func<string, Stream> place = _ => Begun(ConnectionTo(host, port, patience), line);
             return Over(process, place(process), false, null, place);
+        }
+
+        /// <summary>What a connection begins with: this token or, if it is empty, that of MONITOR_TOKEN, and a LF;
+        /// nothing if there is none. No error shows it. What isn't UTF-8 in the environment comes as U+FFFD.</summary>
+        private static byte[] TokenLine(string given)
+        {
+            bool isGiven = !string.IsNullOrEmpty(given);
+            string token = isGiven ? given : Environment.GetEnvironmentVariable("MONITOR_TOKEN") ?? "";
+            try
+            {
+                byte[] line = Utf8.GetBytes(token.Length == 0 ? "" : token + "\n");
+                if (line.Length <= TokenByteLimit + 1 && token.IndexOfAny(new[] { '\n', '\r', '\0', '\uFFFD' }) < 0)
+                {
+                    return line;
+                }
+            }
+            catch (EncoderFallbackException)
+            {
+                // it is half a pair of surrogates
+            }
+            throw Refused(Reason.Token, (isGiven ? "the token" : "MONITOR_TOKEN") + " is no token, which is one line "
+                + "of at most " + TokenByteLimit + " bytes of UTF-8, without LF, CR, NUL and U+FFFD");
+        }
+
+        /// <summary>The same connection, once this is written to it.</summary>
+        private static Stream Begun(Stream connection, byte[] line)
+        {
+            try
+            {
+                connection.Write(line, 0, line.Length);
+                return connection;
+            }
+            catch
+            {
+                connection.Dispose();
+                throw;
+            }
         }
 
         /// <summary>Whether a recording is a long one, as this or MONITOR_LONG says.</summary>
@@ -342,7 +386,8 @@ namespace MonitorRecorder
         /// machine, of <c>host:7411</c> or <c>[fe80::1]:7411</c>, or by a Unix socket, of
         /// <c>unix:/run/monitor.sock</c>. What has a colon and no slash is no folder. A connection keeps no earlier
         /// incarnation, and is judged within the limits of a session, so <paramref name="again"/> and
-        /// <paramref name="isLong"/> are refused with one.</summary>
+        /// <paramref name="isLong"/> are refused with one. It begins with the token of MONITOR_TOKEN, as with that of
+        /// <see cref="ToPort(string, int, string)"/>.</summary>
         public static Recorder FromEnvironment(string process, bool again = false, bool isLong = false)
         {
             string place = Environment.GetEnvironmentVariable("MONITOR_TO") ?? "";
@@ -360,8 +405,9 @@ namespace MonitorRecorder
             }
         }
 
-        /// <summary>The same, of a place that is given.</summary>
-        public static Recorder ToPlace(string process, string place, bool again = false, bool isLong = false)
+        /// <summary>The same, of a place that is given, and of a token that isn't empty.</summary>
+        public static Recorder ToPlace(string process, string place, bool again = false, bool isLong = false,
+            string token = "")
         {
             CheckedProcess(process);
             bool isSocket = place.StartsWith(SocketPrefix, StringComparison.Ordinal);
@@ -379,7 +425,7 @@ namespace MonitorRecorder
                 throw Refused(Reason.Again, "MONITOR_TO is the connection " + place
                     + ", and only a folder has the recording of an earlier incarnation");
             }
-            return ToAddress(process, host, port, Patience, "MONITOR_TO is " + place, isLong);
+            return ToAddress(process, host, port, Patience, "MONITOR_TO is " + place, token, isLong);
         }
 
         private static int PortIn(string place, out string host)

@@ -89,6 +89,9 @@ internal sealed class Player
         {
             case "file": Begin(words[0], ToFile(TextOf(words[0]), TextOf(words[1]))); break;
             case "port": Begin(words[0], ToPort(TextOf(words[0]), int.Parse(words[1]), SecondsOf(words[2]))); break;
+            case "token-port":
+                Begin(words[0], ToPort(TextOf(words[0]), int.Parse(words[1]), SecondsOf(words[2]), TextOf(words[3])));
+                break;
             case "again": Begin(words[0], ToFile(TextOf(words[0]), TextOf(words[1]), again: true)); break;
             case "place": Begin(words[0], ToPlace(TextOf(words[0]), TextOf(words[1]))); break;
             case "again-at": Begin(words[0], ToPlace(TextOf(words[0]), TextOf(words[1]), again: true)); break;

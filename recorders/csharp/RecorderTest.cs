@@ -9,8 +9,8 @@ internal static class RecorderTest
 {
     private static int Main(string[] arguments)
     {
-        Action<string>[] tests = { Places, LongRecordings, StrandsWithoutAPlace, BlocksThatAreLeft, TextsThatAreNone,
-            LinesThatFail, StrandsThatFail };
+        Action<string>[] tests = { Places, Tokens, LongRecordings, StrandsWithoutAPlace, BlocksThatAreLeft,
+            TextsThatAreNone, LinesThatFail, StrandsThatFail };
         int wrong = 0;
         foreach (Action<string> test in tests)
         {
@@ -56,6 +56,15 @@ internal static class RecorderTest
         Refuses(Reason.ProcessName, () => ToPlace("left\n", folder));
         File.WriteAllText(path, "");
         Fails<IOException>(() => ToPlace("left", path));
+    }
+
+    private static void Tokens(string path)
+    {
+        foreach (string token in new[] { "a\0b", "\ud800", "\ufffd", "a\n", new string('x', 1025) })
+        {
+            Refuses(Reason.Token, () => ToPort("left", 1, token));
+            Refuses(Reason.Token, () => ToPlace("left", ":1", token: token));
+        }
     }
 
     private static void LongRecordings(string path)

@@ -27,7 +27,8 @@
 -module(monitor_recorder).
 
 -export([trace/1, trace/2, trace/3, set/1, join/1, stop/0]).
--export([to_file/2, to_file/3, to_port/2, to_port/3, from_environment/1, from_environment/2, to_place/2, to_place/3]).
+-export([to_file/2, to_file/3, to_port/2, to_port/3, to_port/4]).
+-export([from_environment/1, from_environment/2, to_place/2, to_place/3]).
 -export([event/1, event/2, send/1, send/2, send_as/2, send_as/3, recv/2, recv/3, events/1]).
 -export([strand/2, join/2, join/3, close/1, abandon/1]).
 -export([format_error/2]).
@@ -52,6 +53,8 @@
 -define(HERE, {127, 0, 0, 1}).
 -define(PLACE, "MONITOR_TO").
 -define(AS_LONG, "MONITOR_LONG").
+-define(TOKEN, "MONITOR_TOKEN").
+-define(TOKEN_BYTE_LIMIT, 1024).
 
 -record(recorder, {server :: pid(), name :: binary()}).
 
@@ -107,7 +110,8 @@
 }).
 
 -opaque recorder() :: #recorder{}.
--type place() :: {file | again, file:filename_all()} | {at, address(), non_neg_integer()}.
+%% A connection begins with the token and its LF, or nothing.
+-type place() :: {file | again, file:filename_all()} | {at, address(), non_neg_integer(), binary()}.
 %% The port of a host, by its name or address, or a socket with a path.
 -type address() :: {inet:hostname() | inet:ip_address(), inet:port_number()} | {local, binary()}.
 -type name() :: atom() | binary().
@@ -115,7 +119,7 @@
 -type settings() :: #{name() => integer() | boolean()} | [{name(), integer() | boolean()}].
 %% Why a call was refused.
 -type word() :: process_name | variable_name | value | variables | events | id | id_twice | ended | broken
-              | name_twice | processes | not_ended | place | running | again | long | process | taken.
+              | name_twice | processes | not_ended | place | running | again | long | token | process | taken.
 %% With `again' a file that is there is what the process recorded before it was killed and started again. Then a further
 %% incarnation is recorded, as a process of its own and to a file beside: of `left' and `left.stream' the second one is
 %% `left_2' in `left_2.stream'. Its first event receives the message `left-ended', by which it comes after all that the
@@ -123,8 +127,10 @@
 %% before open for writing, and on a system that doesn't tell by /proc which process has. With `long' it is a long
 %% recording: it may have 2,147,483,647 events, 4,096 processes with its strands, and ids of 1,024 bytes, and has to be
 %% reduced by monitor_reduce.py before it is judged. MONITOR_LONG=1 in the environment says the same, to each call that
-%% makes a recorder.
--type option() :: again | long.
+%% makes a recorder. With a token each connection begins with it, as the line that `monitor serve --token' asks for;
+%% without one, or with no text, that is MONITOR_TOKEN in the environment, if there is one.
+-type option() :: again | long | token().
+-type token() :: {token, unicode:chardata()}.
 
 %%% Erlang processes, recorded by what the runtime tells of their messages.
 
@@ -141,16 +147,17 @@ trace(Processes) ->
 trace(Processes, Place) ->
     trace(Processes, Place, []).
 
-%% @doc The same, with `long' for a long recording.
--spec trace(#{name() => pid() | atom()} | [{name(), pid() | atom()}], file:filename_all(), [long]) -> ok.
+%% @doc The same, with `long' for a long recording, or with a token for connections.
+-spec trace(#{name() => pid() | atom()} | [{name(), pid() | atom()}], file:filename_all(), [long | token()]) -> ok.
 trace(Processes, Place, Options) when is_map(Processes) ->
     trace(lists:sort(maps:to_list(Processes)), Place, Options);
 trace(Processes, Place, Options) ->
     Named = [{checked_name(process_name, Name), pid_of(Process)} || {Name, Process} <- Processes],
     Absolute = absolute(Place),
-    Limits = limits_of(Options, [long]),
+    Limits = limits_of(Options, [long, token]),
+    Token = token_in(Options),
     Tracer = tracer(),
-    lists:foreach(fun({Name, Pid}) -> ask(Tracer, {trace, Name, Pid, Absolute, Limits}) end, Named).
+    lists:foreach(fun({Name, Pid}) -> ask(Tracer, {trace, Name, Pid, Absolute, Token, Limits}) end, Named).
 
 pid_of(Pid) when is_pid(Pid), node(Pid) =:= node() ->
     Pid;
@@ -264,8 +271,8 @@ delivered(Delivered, Tracing) ->
     case Request of
         stop ->
             From ! {Reference, {ok, ended(Now)}};
-        {trace, Name, Pid, Place, Limits} ->
-            try added(Name, Pid, Place, Limits, Now) of
+        {trace, Name, Pid, Place, Token, Limits} ->
+            try added(Name, Pid, Place, Token, Limits, Now) of
                 Added -> From ! {Reference, {ok, ok}}, tracing(Added)
             catch
                 throw:Refusal -> From ! {Reference, Refusal}, tracing(Now)
@@ -273,14 +280,15 @@ delivered(Delivered, Tracing) ->
     end.
 
 %% Begins to record a process, which comes after the recorded process that started it.
-added(Name, Pid, Place, Limits, Tracing) ->
+added(Name, Pid, Place, Token, Limits, Tracing) ->
     #tracing{streams = Streams, processes = Processes, seen = Seen} = Tracing,
     maps:is_key(Pid, Processes) andalso throw_refused(process, "~tp is recorded already", [Pid]),
     refuse_name(Name, Streams, "this recording", Limits),
     erlang:is_process_alive(Pid) orelse throw_refused(process, "~tp has exited", [Pid]),
     Label = label(),
     Added = Processes#{Pid => {Name, Label}},
-    Opened = opened_stream(Name, within(Limits, Place, in_folder(Name, place_of(Place))), Limits),
+    Found = within(Limits, Place, in_folder(Name, place_of(Place))),
+    Opened = opened_stream(Name, with_token(Token, Found), Limits),
     Stream = after_start(Pid, Opened, Tracing),
     erlang:trace_pattern(send, pattern(Added), []),
     try
@@ -453,7 +461,7 @@ in_file(Path, Options) ->
 
 %% The limits of a recording that is a long one if the options or MONITOR_LONG say so.
 limits_of(Options, Known) ->
-    lists:all(fun(Option) -> lists:member(Option, Known) end, Options) orelse error(badarg),
+    lists:all(fun(Option) -> is_known(Option, Known) end, Options) orelse error(badarg),
     Text = os:getenv(?AS_LONG, ""),
     lists:member(Text, ["", "0", "1"])
         orelse refuse(long, "~ts is ~tp, and is 1 for a long recording, or else 0", [?AS_LONG, Text]),
@@ -463,6 +471,9 @@ limits_of(Options, Known) ->
         false -> #limits{}
     end.
 
+is_known({token, _}, Known) -> lists:member(token, Known);
+is_known(Option, Known) -> Option =/= token andalso lists:member(Option, Known).
+
 %% The place, if a recording with these limits may go there; what is said of it is a text.
 within(#limits{is_long = true}, Said, {at, _, _}) ->
     throw_refused(long, "~ts is a connection, as ~ts may name, and monitor serve judges within the limits of a session:"
@@ -470,6 +481,30 @@ within(#limits{is_long = true}, Said, {at, _, _}) ->
                   [Said, ?PLACE, ?AS_LONG]);
 within(_, _, Place) ->
     Place.
+
+%% The token that the options give, or no bytes.
+token_in(Options) ->
+    unicode:characters_to_binary(proplists:get_value(token, Options, "")).
+
+%% The place, of which a connection begins with this token or, without one, with that of MONITOR_TOKEN.
+with_token(Token, {at, Address, Milliseconds}) -> {at, Address, Milliseconds, token_line(Token)};
+with_token(_, Place) -> Place.
+
+%% The token with its LF, or no bytes. No error shows it.
+token_line(<<>>) ->
+    Text = os:getenv(?TOKEN, ""),
+    token_line(?TOKEN, unicode:characters_to_binary(Text, unicode, file:native_name_encoding()));
+token_line(Token) ->
+    token_line("the token", Token).
+
+token_line(_, <<>>) ->
+    <<>>;
+token_line(Name, Token) ->
+    is_binary(Token) andalso byte_size(Token) =< ?TOKEN_BYTE_LIMIT
+        andalso binary:match(Token, [<<"\n">>, <<"\r">>, <<0>>]) =:= nomatch
+        orelse throw_refused(token, "~ts is no token, which is one line of at most ~b bytes, without LF, CR and NUL",
+                             [Name, ?TOKEN_BYTE_LIMIT]),
+    <<Token/binary, $\n>>.
 
 %% @doc Records to `monitor serve' on a port of this machine, 1 to 65,534, for which it waits ten seconds.
 -spec to_port(name(), inet:port_number()) -> recorder().
@@ -481,9 +516,15 @@ to_port(Process, Port) ->
 %% judged.
 -spec to_port(name(), inet:port_number(), non_neg_integer()) -> recorder().
 to_port(Process, Port, Milliseconds) ->
+    to_port(Process, Port, Milliseconds, []).
+
+%% @doc The same, with a token.
+-spec to_port(name(), inet:port_number(), non_neg_integer(), [token()]) -> recorder().
+to_port(Process, Port, Milliseconds, Options) ->
     Name = checked_name(process_name, Process),
-    Limits = limits_of([], []),
-    try within(Limits, integer_to_list(Port), {at, {?HERE, Port}, Milliseconds}) of
+    Limits = limits_of(Options, [token]),
+    Token = token_in(Options),
+    try with_token(Token, within(Limits, integer_to_list(Port), {at, {?HERE, Port}, Milliseconds})) of
         At -> opened(Name, At, Limits)
     catch
         throw:Refusal -> answered(Refusal)
@@ -498,7 +539,7 @@ from_environment(Process) ->
     from_environment(Process, []).
 
 %% @doc The same, with options. A connection keeps no earlier incarnation, and is judged within the limits of a session,
-%% so `again' and `long' are refused with one.
+%% so `again' and `long' are refused with one. It begins with the token, which is MONITOR_TOKEN if none is given.
 -spec from_environment(name(), [option()]) -> recorder().
 from_environment(Process, Options) ->
     Place = os:getenv(?PLACE, ""),
@@ -527,14 +568,14 @@ to_place(Process, Place, Options) ->
     Name = checked_name(process_name, Process),
     try
         Kind = place_of(Place),
-        Limits = limits_of(Options, [again, long]),
-        {within(Limits, Place, in_folder(Name, Kind)), Limits}
+        Limits = limits_of(Options, [again, long, token]),
+        Found = within(Limits, Place, in_folder(Name, Kind)),
+        element(1, Found) =:= at andalso lists:member(again, Options)
+            andalso throw_refused(again, "~ts is a connection, and only a folder has an earlier incarnation", [Place]),
+        {with_token(token_in(Options), Found), Limits}
     of
         {{file, Path}, Limits} -> opened(Name, in_file(Path, Options), Limits);
-        {At, Limits} ->
-            lists:member(again, Options)
-                andalso refuse(again, "~ts is a connection, and only a folder keeps an earlier incarnation", [Place]),
-            opened(Name, At, Limits)
+        {At, Limits} -> opened(Name, At, Limits)
     catch
         throw:Refusal -> answered(Refusal)
     end.
@@ -801,14 +842,14 @@ beside(_, At) -> At.
 %% A stream that has its first line.
 opened_stream(Name, {file, Path}, Limits) ->
     case file:open(Path, [write, exclusive, raw, binary]) of
-        {ok, File} -> joined(#stream{name = Name, out = {file, File}, limits = Limits});
+        {ok, File} -> joined(<<>>, #stream{name = Name, out = {file, File}, limits = Limits});
         {error, Reason} -> throw({failed, Reason, none})
     end;
 opened_stream(Name, {again, Path}, Limits) ->
     incarnation(Name, Path, Limits);
-opened_stream(Name, {at, Address, Milliseconds}, Limits) ->
+opened_stream(Name, {at, Address, Milliseconds, Token}, Limits) ->
     Until = erlang:monotonic_time(millisecond) + Milliseconds,
-    joined(#stream{name = Name, out = {socket, connected(Address, Until)}, limits = Limits}).
+    joined(Token, #stream{name = Name, out = {socket, connected(Address, Until)}, limits = Limits}).
 
 %% An incarnation of a process, to the first of its files that isn't there yet. It gets its name once the receipt
 %% stands in it, so that it has that whenever the process is killed.
@@ -888,9 +929,9 @@ identity(Path) ->
         {error, Reason} -> {error, Reason, Path}
     end.
 
-joined(#stream{name = Name} = Stream) ->
+joined(Token, #stream{name = Name} = Stream) ->
     try
-        write_line(["{\"process\":\"", Name, "\"}\n"], Stream)
+        write_line([Token, "{\"process\":\"", Name, "\"}\n"], Stream)
     catch
         throw:Failure -> closed(Stream), throw(Failure)
     end.

@@ -42,6 +42,10 @@ make(<<"file">>, [Process, Path], _) ->
 make(<<"port">>, [Process, Port, Seconds], _) ->
     Milliseconds = round(1000 * number(Seconds)),
     begun(Process, monitor_recorder:to_port(text(Process), binary_to_integer(Port), Milliseconds));
+make(<<"token-port">>, [Process, Port, Seconds, Token], _) ->
+    Milliseconds = round(1000 * number(Seconds)),
+    Options = [{token, text(Token)}],
+    begun(Process, monitor_recorder:to_port(text(Process), binary_to_integer(Port), Milliseconds, Options));
 make(<<"again">>, [Process, Path], _) ->
     begun(Process, monitor_recorder:to_file(text(Process), text(Path), [again]));
 make(<<"long">>, [Process, Path], _) ->

@@ -335,6 +335,20 @@ test("places", Folder) ->
     {ok, <<"{\"process\":\"right\"}\n">>} = gen_tcp:recv(Connection, 0),
     ok = monitor_recorder:close(Right),
     {ok, <<"{\"end\":true}\n">>} = gen_tcp:recv(Connection, 0),
+    Token = [{token, "a token"}],
+    Third = monitor_recorder:to_place(third, ":" ++ integer_to_list(Port), Token),
+    {ok, Another} = gen_tcp:accept(Listener),
+    [{ok, Line} = gen_tcp:recv(Another, 0) || Line <- [<<"a token\n">>, <<"{\"process\":\"third\"}\n">>]],
+    ok = monitor_recorder:close(Third),
+    ok = monitor_recorder:close(monitor_recorder:to_place(right, filename:join(Folder, "new"), Token)),
+    [refused(token, fun() -> monitor_recorder:to_place(left, ":1", [{token, None}]) end)
+     || None <- ["a\n", <<"a\r">>, [0], lists:duplicate(1025, $x), <<255>>]],
+    badarg = raised(fun() -> monitor_recorder:to_file(left, filename:join(Folder, "left.stream"), Token) end),
+    A = worker(),
+    ok = monitor_recorder:trace([{a, A}], ":" ++ integer_to_list(Port), Token),
+    {ok, Traced} = gen_tcp:accept(Listener),
+    [{ok, Line} = gen_tcp:recv(Traced, 0) || Line <- [<<"a token\n">>, <<"{\"process\":\"a\"}\n">>]],
+    ok = monitor_recorder:stop(),
     gen_tcp:close(Listener);
 
 test("an_owner_that_exits", Folder) ->

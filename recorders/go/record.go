@@ -69,6 +69,8 @@ const (
 	NameByteLimit = 32     // at most so many bytes has the name of a process or of a variable
 	IDByteLimit   = 64     // at most so many bytes has the id of a message, and at least one
 	NoteByteLimit = 1_024  // at most so many bytes has a note of its text, and of its place's file: the rest is cut
+
+	TokenByteLimit = 1_024 // at most so many bytes has a token
 )
 
 // The limits of a long recording: see [Options].
@@ -114,6 +116,9 @@ type Options struct {
 	// 1,024 bytes, and has to be reduced by monitor_reduce.py before it is judged. MONITOR_LONG=1 in the environment says
 	// the same, of each recorder that is made.
 	Long bool
+	// Token is the line with which each connection begins, as monitor serve asks for after --token. If it is empty, that
+	// is MONITOR_TOKEN in the environment, if there is one. It says nothing of a file.
+	Token string
 }
 
 // limits are those of what is recorded, as the options or the environment say.
@@ -185,6 +190,8 @@ var (
 	ErrLong error = refusal("no long recording is made: MONITOR_LONG is 1 for one, and else 0 or not set; and none goes " +
 		"to a connection, of MONITOR_TO or not, since monitor serve judges within the limits of a session: record to a " +
 		"folder, and reduce it by monitor_reduce.py")
+	// ErrToken says that the token of the options, or MONITOR_TOKEN, is over 1,024 bytes, or has a LF, CR or NUL.
+	ErrToken error = refusal("no token: it is one line of at most 1,024 bytes, without LF, CR and NUL")
 	// ErrNotes says that there is no place for notes, as at a port, or that MONITOR_NOTES is neither 1 nor 0.
 	ErrNotes error = refusal("no place for notes, which go beside a file whose name ends with .stream and to no port; " +
 		"MONITOR_NOTES is 1 for notes, and else 0 or not set")
@@ -476,27 +483,78 @@ func isSameFile(one, other string) bool {
 // syscall.ECONNREFUSED. A later call waits while the monitor doesn't read. With MONITOR_LONG=1 it is ErrLong, since a
 // long recording is reduced before it is judged.
 func ToPort(ctx context.Context, process string, port int) (*Recorder, error) {
+	return Options{}.ToPort(ctx, process, port)
+}
+
+// ToPort records to monitor serve on a port of this machine, with the token of these options. Notes are ErrNotes there,
+// Again is ErrAgain, and Long is ErrLong.
+func (o Options) ToPort(ctx context.Context, process string, port int) (*Recorder, error) {
 	if !isName(process) {
 		return nil, refused(process, ErrProcessName)
 	}
-	if err := (Options{}).withinSession(strconv.Itoa(port)); err != nil {
+	digits := strconv.Itoa(port)
+	return o.toAddress(ctx, process, address{"tcp4", net.JoinHostPort(here, digits)}, digits)
+}
+
+// toAddress records to an address, of which this is the place.
+func (o Options) toAddress(ctx context.Context, process string, a address, place string) (*Recorder, error) {
+	switch {
+	case o.Notes:
+		return nil, refused(place, ErrNotes)
+	case o.Again:
+		return nil, refused(place, ErrAgain)
+	}
+	if err := o.withinSession(place); err != nil {
 		return nil, err
 	}
-	return address{"tcp4", net.JoinHostPort(here, strconv.Itoa(port))}.record(ctx, process)
+	line, err := o.tokenLine()
+	if err != nil {
+		return nil, err
+	}
+	return a.record(ctx, process, line)
+}
+
+// tokenLine is what a connection begins with: the token and a LF, or nothing if there is none. No error shows it.
+func (o Options) tokenLine() (string, error) {
+	name, token := "Options.Token", o.Token
+	if token == "" {
+		name, token = "MONITOR_TOKEN", os.Getenv("MONITOR_TOKEN")
+	}
+	switch {
+	case token == "":
+		return "", nil
+	case len(token) > TokenByteLimit || strings.ContainsAny(token, "\n\r\x00"):
+		return "", refused(name, ErrToken)
+	}
+	return token + "\n", nil
 }
 
 // An address is where monitor serve listens, as the package net takes it.
 type address struct{ network, text string }
 
-func (a address) record(ctx context.Context, process string) (*Recorder, error) {
-	connection, err := a.connection(ctx)
+// record records to the address, with this line before all others, if it is one.
+func (a address) record(ctx context.Context, process, line string) (*Recorder, error) {
+	connection, err := a.begun(ctx, line)
 	if err != nil {
 		return nil, err
 	}
 	return over(process, files{out: connection}, session, func(string) (files, error) {
-		connection, err := a.connection(context.Background())
+		connection, err := a.begun(context.Background(), line)
 		return files{out: connection}, err
 	})
+}
+
+// begun is a connection to the address that has begun with this line.
+func (a address) begun(ctx context.Context, line string) (net.Conn, error) {
+	connection, err := a.connection(ctx)
+	if err != nil || line == "" {
+		return connection, err
+	}
+	if _, err := io.WriteString(connection, line); err != nil {
+		connection.Close()
+		return nil, err
+	}
+	return connection, nil
 }
 
 // addressOf is the port or the socket that MONITOR_TO names. A folder is no address.
@@ -535,8 +593,8 @@ var portPattern = regexp.MustCompile(
 // serve, on a port of this machine, of :7411 or localhost:7411, on one of another machine, of host:7411 or
 // [fe80::1]:7411, or by a Unix socket, of unix:/run/monitor.sock. With MONITOR_NOTES=1 each event gets a note beside
 // the file. A connection has no place for notes, keeps no earlier incarnation, and is judged within the limits of a
-// session, so with one notes are ErrNotes, and [Options] with Again are ErrAgain, and with Long ErrLong. What has a
-// colon and no slash is no folder.
+// session, so with one notes are ErrNotes, and [Options] with Again are ErrAgain, and with Long ErrLong. It begins with
+// MONITOR_TOKEN, if that is set, or the token of [Options]. What has a colon and no slash is no folder.
 func FromEnvironment(ctx context.Context, process string) (*Recorder, error) {
 	return Options{}.FromEnvironment(ctx, process)
 }
@@ -555,16 +613,8 @@ func (o Options) FromEnvironment(ctx context.Context, process string) (*Recorder
 		return nil, err
 	case wanted != "" && wanted != "0" && wanted != "1":
 		return nil, refused(wanted, ErrNotes)
-	case !isFolder && o.Notes:
-		return nil, refused(place, ErrNotes)
-	case !isFolder && o.Again:
-		return nil, refused(place, ErrAgain)
-	}
-	if !isFolder {
-		if err := o.withinSession(place); err != nil {
-			return nil, err
-		}
-		return address.record(ctx, process)
+	case !isFolder:
+		return o.toAddress(ctx, process, address, place)
 	}
 	if _, err := o.limits(); err != nil {
 		return nil, err

@@ -193,6 +193,39 @@ func TestAPortOnWhichNobodyListens(t *testing.T) {
 	see(t, err, ErrProcessName)
 }
 
+func TestTokens(t *testing.T) {
+	ctx := context.Background()
+	for _, token := range []string{"a\x00b", "a\n", strings.Repeat("x", TokenByteLimit+1)} {
+		_, err := Options{Token: token}.ToPort(ctx, "left", 1)
+		see(t, err, ErrToken)
+		see(t, err, ErrNotRecorded)
+	}
+	for _, options := range []Options{{Notes: true}, {Again: true}, {Long: true}} {
+		_, err := options.ToPort(ctx, "left", 1)
+		see(t, err, ErrNotRecorded)
+	}
+	listener, err := net.Listen("tcp4", "127.0.0.1:0")
+	see(t, err, nil)
+	defer listener.Close()
+	t.Setenv("MONITOR_TOKEN", "a secret\rof two")
+	t.Setenv("MONITOR_TO", ":"+strconv.Itoa(listener.Addr().(*net.TCPAddr).Port))
+	_, err = FromEnvironment(ctx, "left")
+	see(t, err, ErrToken)
+	if strings.Contains(err.Error(), "secret") {
+		t.Errorf("the error is %q", err)
+	}
+	r, err := Options{Token: "own \xff"}.FromEnvironment(ctx, "left")
+	see(t, err, nil)
+	connection, err := listener.Accept()
+	see(t, err, nil)
+	see(t, r.End(), nil)
+	text, err := io.ReadAll(connection)
+	see(t, err, nil)
+	if string(text) != "own \xff\n{\"process\":\"left\"}\n{\"end\":true}\n" {
+		t.Errorf("the connection has %q", text)
+	}
+}
+
 func TestAPlaceThatTheEnvironmentNames(t *testing.T) {
 	at := func(place, name string) (*Recorder, error) {
 		t.Setenv("MONITOR_TO", place)

@@ -93,6 +93,9 @@ final class Player {
             }
             case "port" -> begin(words.get(0), Recorder.toPort(textOf(words.get(0)), Integer.parseInt(words.get(1)),
                     Duration.ofMillis((long) (Double.parseDouble(words.get(2)) * 1000))));
+            case "token-port" -> begin(words.get(0), Recorder.toPort(textOf(words.get(0)),
+                    Integer.parseInt(words.get(1)), Duration.ofMillis((long) (Double.parseDouble(words.get(2)) * 1000)),
+                    textOf(words.get(3))));
             case "strand" -> recorders.put(words.get(0), recorder.strand(textOf(words.get(0))));
             case "join" -> recorder.join(recorders.get(words.get(0)), settingsOf(words.subList(1, words.size())));
             case "in" -> {

@@ -58,6 +58,7 @@ final class RecorderTest {
         anInterruptedThreadRecords(folder);
         files(folder);
         aPortOnWhichNobodyListens();
+        tokens();
         aPlaceThatTheEnvironmentNames();
         interruptedAtASocket();
         threadsWithAStrandEach(folder);
@@ -260,6 +261,20 @@ final class RecorderTest {
             Thread.currentThread().interrupt();
             seeThrown(InterruptedIOException.class, () -> Recorder.toPort("left", port));
             see(Thread.interrupted(), true);
+        }
+    }
+
+    private static void tokens() throws IOException {
+        for (String token : new String[] {"a\0b", "\ud800", "\ufffd", "a\n", "x".repeat(1025)}) {
+            seeThrown(NotRecordedException.class, () -> Recorder.toPort("left", 1, Duration.ZERO, token));
+            seeThrown(NotRecordedException.class, () -> Recorder.toPlace("left", ":1", token));
+        }
+        try (ServerSocket server = new ServerSocket(0, 1, InetAddress.getLoopbackAddress());
+                Recorder left = Recorder.toPlace("left", ":" + server.getLocalPort(), "a token");
+                Socket accepted = server.accept()) {
+            left.end();
+            see(new String(accepted.getInputStream().readAllBytes(), StandardCharsets.UTF_8),
+                    "a token\n{\"process\":\"left\"}\n{\"end\":true}\n");
         }
     }
 

@@ -54,6 +54,7 @@ const LONG_EVENT_LIMIT = 2_147_483_647;
 const LONG_PROCESS_LIMIT = 4_096;
 const LONG_ID_BYTE_LIMIT = 1_024;
 const NOTE_BYTE_LIMIT = 1_024;
+const TOKEN_BYTE_LIMIT = 1_024;
 const [ENDING, NOTES_ENDING] = [".stream", ".notes.jsonl"];
 // Besides what JSON escapes these are: a terminal takes some for commands, and what reads lines others for their ends.
 const ESCAPED = /[\x7f-\x9f\u2028\u2029]/g;
@@ -195,9 +196,12 @@ class Recorder {
    * given; if nobody does by then, it is an error with the code ECONNREFUSED. A later call waits, and keeps the whole
    * thread waiting, while the monitor doesn't read. It is refused with MONITOR_LONG=1, since a long recording is
    * reduced before it is judged.
+   *
+   * Each connection begins with the token, if there is one, as the line that `monitor serve --token` asks for: this
+   * text or, without it, MONITOR_TOKEN in the environment.
    */
-  static async toPort(process, port, { seconds = PATIENCE_SECONDS } = {}) {
-    return Recorder.#toAddress(process, { host: HERE, port }, `the port is ${port}`, seconds, {});
+  static async toPort(process, port, { seconds = PATIENCE_SECONDS, token = "" } = {}) {
+    return Recorder.#toAddress(process, { host: HERE, port }, `the port is ${port}`, seconds, { token });
   }
 
   static async #toAddress(process, address, said, seconds, options) {
@@ -206,8 +210,9 @@ class Recorder {
       const instead = "record a long run to a folder, and reduce it by monitor_reduce.py; MONITOR_LONG is 1 for one";
       throw new NotRecorded("long", `${said}, and monitor serve judges within the limits of a session: ${instead}`);
     }
-    const opened = () => ({ out: Connection.now(address, seconds) });
-    return Recorder.#over(process, { out: await Connection.to(address, seconds) }, SESSION, opened);
+    const line = tokenLine(options.token ?? "");
+    const opened = () => ({ out: Connection.now(address, seconds).begun(line) });
+    return Recorder.#over(process, { out: (await Connection.to(address, seconds)).begun(line) }, SESSION, opened);
   }
 
   /**
@@ -216,7 +221,8 @@ class Recorder {
    * of this machine, of :7411 or localhost:7411, on one of another machine, of host:7411 or [fe80::1]:7411, or by a
    * Unix socket, of unix:/run/monitor.sock. With MONITOR_NOTES=1 each event gets a note beside the file. A connection
    * has no place for notes, keeps no earlier incarnation, and is judged within the limits of a session, so notes,
-   * `again` and `long` are refused with one. What has a colon and no slash is no folder.
+   * `again` and `long` are refused with one. It begins with MONITOR_TOKEN, as that of `toPort`. What has a colon and
+   * no slash is no folder.
    */
   static async fromEnvironment(process, { again = false, long = false, replace = false } = {}) {
     checkedName("process", process);
@@ -822,6 +828,21 @@ function addressOf(place) {
   return { host: ["", "localhost"].includes(host) ? HERE : host, port: Number(digits) };
 }
 
+/**
+ * What a connection begins with: this token or, without one, that of MONITOR_TOKEN, and a LF; nothing if there is none.
+ * No error shows it.
+ */
+function tokenLine(token) {
+  const [name, text] = token === "" ? ["MONITOR_TOKEN", environment.MONITOR_TOKEN ?? ""] : ["the token", token];
+  const isText = typeof text === "string" && Buffer.from(text).toString() === text;
+  // What the environment has and UTF-8 hasn't comes as U+FFFD.
+  if (!isText || Buffer.byteLength(text) > TOKEN_BYTE_LIMIT || /[\n\r\0]|\ufffd/.test(text)) {
+    const wanted = `one line of at most ${TOKEN_BYTE_LIMIT} bytes of UTF-8, without LF, CR, NUL and U+FFFD`;
+    throw new NotRecorded("token", `${name} is no token, which is ${wanted}`);
+  }
+  return text === "" ? "" : `${text}\n`;
+}
+
 /** Whether what MONITOR_NOTES says is that events have notes. */
 function hasNotes(text) {
   if (!["", "0", "1"].includes(text)) {
@@ -945,6 +966,17 @@ class Connection {
         else resolve(new Connection(worker, shared));
       });
     });
+  }
+
+  /** The same connection, once this line is written, if it is one. */
+  begun(line) {
+    try {
+      if (line !== "") this.write(line);
+      return this;
+    } catch (error) {
+      this.close();
+      throw error;
+    }
   }
 
   write(line) {
@@ -1103,4 +1135,5 @@ module.exports = {
   LONG_PROCESS_LIMIT,
   LONG_ID_BYTE_LIMIT,
   NOTE_BYTE_LIMIT,
+  TOKEN_BYTE_LIMIT,
 };

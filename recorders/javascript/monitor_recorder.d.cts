@@ -18,6 +18,8 @@ export const LONG_PROCESS_LIMIT: 4_096;
 export const LONG_ID_BYTE_LIMIT: 1_024;
 /** At most so many bytes of UTF-8 has a note of its text, and of its place's file: what is longer is cut. */
 export const NOTE_BYTE_LIMIT: 1_024;
+/** At most so many bytes of UTF-8 has a token. */
+export const TOKEN_BYTE_LIMIT: 1_024;
 
 /** Why a call was refused. */
 export type Reason =
@@ -55,6 +57,8 @@ export type Reason =
   | "again"
   /** A long recording goes to no connection, or MONITOR_LONG is neither 1 nor 0. */
   | "long"
+  /** The token that is given, or MONITOR_TOKEN, is over 1,024 bytes of UTF-8, or has a LF, CR, NUL or U+FFFD. */
+  | "token"
   /** There is no place for notes, as at a port, or MONITOR_NOTES is neither 1 nor 0. */
   | "notes"
   /** What stands where a note may is none, as { note: "a text" }. */
@@ -129,9 +133,10 @@ export class Recorder {
   /**
    * Records to `monitor serve` on a port of this machine, 1 to 65,534, which may listen up to ten seconds later, or as
    * many as are given; if nobody does by then, it is an error with the code ECONNREFUSED. A later call waits, and keeps
-   * the whole thread waiting, while the monitor doesn't read.
+   * the whole thread waiting, while the monitor doesn't read. Each connection begins with the token, if there is one,
+   * as the line that `monitor serve --token` asks for: this text or, without it, MONITOR_TOKEN in the environment.
    */
-  static toPort(process: string, port: number, options?: { seconds?: number }): Promise<Recorder>;
+  static toPort(process: string, port: number, options?: { seconds?: number; token?: string }): Promise<Recorder>;
 
   /**
    * Records to where MONITOR_TO in the environment says, so that no code changes between a test and a live session: to
@@ -139,7 +144,8 @@ export class Recorder {
    * of this machine, of :7411 or localhost:7411, on one of another machine, of host:7411 or [fe80::1]:7411, or by a
    * Unix socket, of unix:/run/monitor.sock. With MONITOR_NOTES=1 each event gets a note beside the file. A connection
    * has no place for notes, keeps no earlier incarnation, and is judged within the limits of a session, so notes,
-   * `again` and `long` are refused with one. What has a colon and no slash is no folder.
+   * `again` and `long` are refused with one. It begins with MONITOR_TOKEN, as that of `toPort`. What has a colon and
+   * no slash is no folder.
    */
   static fromEnvironment(
     process: string,

@@ -223,6 +223,16 @@ test("a port on which nobody listens", async () => {
   server.close();
 });
 
+test("tokens that are none", async () => {
+  for (const token of ["a\0b", "\ud800", "\ufffd", 7, Buffer.from("bytes"), "a\n", "x".repeat(1025)]) {
+    await assert.rejects(Recorder.toPort("left", 1, { token }), { reason: "token", message: /^the token is no token/ });
+  }
+  process.env.MONITOR_TOKEN = "a secret\rof two";
+  const message = /^MONITOR_TOKEN is no token(?!.*secret)/;
+  await assert.rejects(Recorder.toPort("left", 1), { reason: "token", message });
+  delete process.env.MONITOR_TOKEN;
+});
+
 test("a place that the environment names", async () => {
   const at = async (place, name = "left") => {
     if (place === undefined) delete process.env.MONITOR_TO;

@@ -27,6 +27,7 @@ export async function takes(descriptor: number): Promise<Reason | undefined> {
   const all: number = left.within((recorder) => recorder.events);
   left.join(strand, { all });
   (await Recorder.toPort("right", 7411, { seconds: 3 })).end();
+  (await Recorder.toPort("right", 7411, { token: "a token" })).end();
   (await Recorder.fromEnvironment("third")).end();
   Recorder.toFile("fourth", "fourth.stream", { again: true }).end();
   (await Recorder.fromEnvironment("fifth", { again: true })).end();
@@ -62,6 +63,8 @@ export function refuses(left: Recorder): void {
   left.event({ inside: 1 }, "a text");
   // @ts-expect-error: a port has no place for notes
   Recorder.toPort("right", 7411, { notes: true });
+  // @ts-expect-error: a token is a text
+  Recorder.toPort("right", 7411, { token: 7 });
   // @ts-expect-error: a long recording goes to no port
   Recorder.toPort("right", 7411, { long: true });
   // @ts-expect-error: a receipt has an id

@@ -25,6 +25,11 @@ const calls = {
   said: () => refusal,
   port: async (process, port, seconds) =>
     begin(process, await Recorder.toPort(textOf(process), Number(port), { seconds: Number(seconds) })),
+  "token-port": async (process, port, seconds, token) =>
+    begin(
+      process,
+      await Recorder.toPort(textOf(process), Number(port), { seconds: Number(seconds), token: textOf(token) }),
+    ),
   strand: (name) => void recorders.set(name, recorder.strand(textOf(name))),
   join: (name, ...words) => recorder.join(recorders.get(name), settingsOf(words), options),
   in: callIn,

@@ -69,7 +69,8 @@ NOTE_BYTE_LIMIT = 1_024
 # Besides what JSON escapes these are: a terminal takes some for commands, and what reads lines others for their ends.
 ESCAPED = re.compile("[\x7f-\x9f\u2028\u2029]")
 SURROGATE = re.compile("[\ud800-\udfff]")
-PLACE, WITH_NOTES, AS_LONG = "MONITOR_TO", "MONITOR_NOTES", "MONITOR_LONG"
+PLACE, WITH_NOTES, AS_LONG, TOKEN = "MONITOR_TO", "MONITOR_NOTES", "MONITOR_LONG", "MONITOR_TOKEN"
+TOKEN_BYTE_LIMIT = 1_024
 # A port: of this machine, or of another one by its name or address. One of IPv6 stands in brackets.
 PORT = re.compile(r"\A(?:\[([0-9A-Fa-f:.]+(?:%[A-Za-z0-9._-]+)?)\]|([A-Za-z0-9._-]*)):([0-9]{1,5})")
 PORT_LIMIT = 65_534
@@ -203,20 +204,27 @@ class Recorder:
         return recorder
 
     @classmethod
-    def to_port(cls, process, port, variables=None, seconds=CONNECT_SECONDS):
+    def to_port(cls, process, port, variables=None, seconds=CONNECT_SECONDS, token=None):
         """Records to `monitor serve` on a port of this machine. If nobody listens there yet, it is tried again until
         these seconds have passed, and then is an OSError. A call waits while the monitor doesn't read. It is refused
-        with MONITOR_LONG=1, since a long recording is reduced before it is judged."""
-        return cls._to_address(process, (HERE, port), f"the port is {port}", variables, seconds)
+        with MONITOR_LONG=1, since a long recording is reduced before it is judged.
+
+        Each connection begins with the token, if there is one, as the line that `monitor serve --token` asks for: this
+        text or, without it, MONITOR_TOKEN in the environment."""
+        return cls._to_address(process, (HERE, port), f"the port is {port}", variables, seconds, token=token)
 
     @classmethod
-    def _to_address(cls, process, address, said, variables, seconds, long=False):
+    def _to_address(cls, process, address, said, variables, seconds, long=False, token=None):
         checked_name("process", process)
         if limits_of(long) is LONG:
             raise NotRecorded(f"long: {said}, and monitor serve judges within the limits of a session: record a long "
                               f"run to a folder, and reduce it by monitor_reduce.py; {AS_LONG} is 1 for one")
-        return cls._over(process, variables, False, lambda: (connection_to(address, said, seconds), None),
-                         lambda _name: (connection_to(address, said, seconds), None))
+        line = token_line(token)
+
+        def opened(_name=None):
+            return connection_with(line, address, said, seconds), None
+
+        return cls._over(process, variables, False, opened, opened)
 
     @classmethod
     def from_environment(cls, process, variables=None, replace=False, again=False, long=False):
@@ -225,8 +233,8 @@ class Recorder:
         serve`, on a port of this machine, of :7411 or localhost:7411, on one of another machine, of host:7411 or
         [fe80::1]:7411, or by a Unix socket, of unix:/run/monitor.sock. With MONITOR_NOTES=1 each event gets a note
         beside the file. A connection has no place for notes, keeps no earlier incarnation, and is judged within the
-        limits of a session, so notes, `again` and `long` are refused with one. What has a colon and no slash is no
-        folder."""
+        limits of a session, so notes, `again` and `long` are refused with one. It begins with MONITOR_TOKEN, as that
+        of `to_port`. What has a colon and no slash is no folder."""
         checked_name("process", process)
         place, notes = os.environ.get(PLACE, ""), has_notes(os.environ.get(WITH_NOTES, ""))
         address, is_long = address_of(place), limits_of(long) is LONG
@@ -838,6 +846,34 @@ def address_of(place):
         raise NotRecorded(f"{PLACE} is {place}, and names {PLACES}; a folder with a colon has a slash too, as ./a:b")
     host = found[1] or found[2]
     return HERE if host in OWN_HOSTS else host, int(found[3])
+
+
+def token_line(token):
+    """What a connection begins with: this token or, without one, that of MONITOR_TOKEN, and a LF; nothing if there is
+    none. No error shows it."""
+    name, value = ("the token", bytes_of(token)) if token else (TOKEN, os.fsencode(os.environ.get(TOKEN, "")))
+    if len(value) > TOKEN_BYTE_LIMIT or set(value) & set(b"\n\r\0"):
+        raise NotRecorded(f"token: {name} is no token, which is one line of at most {TOKEN_BYTE_LIMIT} bytes, without "
+                          "LF, CR and NUL")
+    return value + b"\n" if value else b""
+
+
+def bytes_of(token):
+    try:
+        return token.encode(errors="surrogateescape")  # a text of the environment gets the bytes that it has there
+    except (AttributeError, UnicodeEncodeError):
+        raise NotRecorded("token: the token is no text that UTF-8 can say") from None
+
+
+def connection_with(line, address, said, seconds):
+    """A connection, as that of `connection_to`, that has begun with this line."""
+    connection = connection_to(address, said, seconds)
+    try:
+        connection.sendall(line)
+    except BaseException:
+        connection.close()
+        raise
+    return connection
 
 
 def connection_to(address, said, seconds):

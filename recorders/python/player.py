@@ -16,7 +16,7 @@ REFUSALS = {"process-name": "no name of a process", "variable-name": "no name of
             "id-twice": "before", "ended": "is closed", "broken": "is broken off",
             "name-twice": "another process of this recording", "processes": "16 processes",
             "not-ended": "no strand that has ended", "running": "still runs", "again": "again: ", "long": "long: ",
-            "place": "MONITOR_TO is"}
+            "place": "MONITOR_TO is", "token": "token: "}
 
 
 def text_of(word):
@@ -68,6 +68,9 @@ class Player:
 
     def port(self, process, port, seconds):
         self.begin(process, Recorder.to_port(text_of(process), int(port), seconds=float(seconds)))
+
+    def token_port(self, process, port, seconds, token):
+        self.begin(process, Recorder.to_port(text_of(process), int(port), seconds=float(seconds), token=text_of(token)))
 
     def begin(self, process, recorder):
         self.recorder, self.recorders = recorder, {process: recorder}

@@ -618,6 +618,20 @@ class Ports(Case):
         with self.assertRaises(NotRecorded):
             self.at(os.path.dirname(self.path), "and")
 
+    def test_tokens_that_are_none(self):
+        for token in ("a\0b", "\ud800", b"bytes", 7, "a\n", 1025 * "x"):
+            with self.assertRaisesRegex(NotRecorded, "^token: the token is no "):
+                Recorder.to_port("left", self.port, token=token)
+
+    def test_a_token_is_the_bytes_of_the_environment(self):
+        secret = b"\xff \xc3\xa9"
+        with unittest.mock.patch.dict(os.environ, {"MONITOR_TOKEN": os.fsdecode(secret)}):
+            recorder = Recorder.to_port("left", self.port)
+        connection, _ = self.listener.accept()
+        with connection:
+            recorder.close()
+            self.assertEqual(connection.makefile("rb").read(), secret + b'\n{"process":"left"}\n{"end":true}\n')
+
     def test_a_connection_of_ones_own(self):
         ours, theirs = socket.socketpair()
         with theirs:

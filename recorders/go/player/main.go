@@ -42,6 +42,7 @@ var refusals = []struct {
 	{record.ErrIDTwice, "id-twice"}, {record.ErrEnded, "ended"}, {record.ErrBroken, "broken"},
 	{record.ErrNameTwice, "name-twice"}, {record.ErrProcesses, "processes"}, {record.ErrNotEnded, "not-ended"},
 	{record.ErrRunning, "running"}, {record.ErrAgain, "again"}, {record.ErrPlace, "place"}, {record.ErrLong, "long"},
+	{record.ErrToken, "token"},
 }
 
 var refusalText string // that of the last one
@@ -103,7 +104,10 @@ func makeCall(call string, words []string) (given string, err error) {
 	case "strands":
 		err = takeStrands(int(numberOf(words[0])), int(numberOf(words[1])))
 	case "port":
-		err = openPort(textOf(words[0]), int(numberOf(words[1])), words[2])
+		err = openPort(textOf(words[0]), int(numberOf(words[1])), words[2], record.Options{})
+	case "token-port":
+		options := record.Options{Token: textOf(words[3])}
+		err = openPort(textOf(words[0]), int(numberOf(words[1])), words[2], options)
 	case "events":
 		given = strconv.Itoa(recorder.Events())
 	case "end":
@@ -135,14 +139,14 @@ func openFile(process, path string, options record.Options) (err error) {
 	return err
 }
 
-func openPort(process string, port int, seconds string) (err error) {
+func openPort(process string, port int, seconds string, options record.Options) (err error) {
 	patience, err := time.ParseDuration(seconds + "s")
 	if err != nil {
 		return err
 	}
 	ctx, cancel := context.WithTimeout(context.Background(), patience)
 	defer cancel()
-	recorder, err = record.ToPort(ctx, process, port)
+	recorder, err = options.ToPort(ctx, process, port)
 	recorders = map[string]*record.Recorder{process: recorder}
 	return err
 }

@@ -107,6 +107,8 @@ public final class Recorder implements AutoCloseable {
     public static final int LONG_ID_BYTE_LIMIT = 1_024;
     /** At most so many bytes of UTF-8 has a note of its text, and of its place's file: what is longer is cut. */
     public static final int NOTE_BYTE_LIMIT = 1_024;
+    /** At most so many bytes of UTF-8 has a token. */
+    public static final int TOKEN_BYTE_LIMIT = 1_024;
 
     private static final Pattern NAME = Pattern.compile("[A-Za-z_][A-Za-z0-9_]*");
     private static final Set<String> RESERVED = Set.of("and", "or", "not", "true", "false");
@@ -194,6 +196,8 @@ public final class Recorder implements AutoCloseable {
         AGAIN,
         /** A long recording goes to no connection, or MONITOR_LONG is neither 1 nor 0. */
         LONG,
+        /** The token that is given, or MONITOR_TOKEN, is over 1,024 bytes of UTF-8, or has a LF, CR, NUL or U+FFFD. */
+        TOKEN,
         /** There is no place for notes, as at a port, or MONITOR_NOTES is neither 1 nor 0. */
         NOTES
     }
@@ -458,17 +462,26 @@ public final class Recorder implements AutoCloseable {
 
     /** The same, with another time to wait for somebody who listens. */
     public static Recorder toPort(String process, int port, Duration patience) throws IOException {
-        return toAddress(process, new Address(HERE, port), patience, "the port is " + port, List.of());
+        return toPort(process, port, patience, "");
     }
 
-    private static Recorder toAddress(String process, Address address, Duration patience, String said,
+    /**
+     * The same, with a token. Each connection begins with it, if there is one, as the line that {@code monitor serve
+     * --token} asks for: this text or, if it is empty, MONITOR_TOKEN in the environment.
+     */
+    public static Recorder toPort(String process, int port, Duration patience, String token) throws IOException {
+        return toAddress(process, new Address(HERE, port), patience, "the port is " + port, token, List.of());
+    }
+
+    private static Recorder toAddress(String process, Address address, Duration patience, String said, String token,
             List<Option> options) throws IOException {
         checkedProcess(process);
         if (limitsOf(options) == LONG) {
             throw refused(Reason.LONG, said + ", and monitor serve judges within the limits of a session: record a "
                     + "long run to a folder, and reduce it by monitor_reduce.py; MONITOR_LONG is 1 for one");
         }
-        Place place = name -> new Opened(connectionTo(address, patience), null);
+        byte[] line = tokenLine(token);
+        Place place = name -> new Opened(begun(connectionTo(address, patience), line), null);
         Recorder recorder = over(process, place.opened(process), SESSION, null);
         recorder.family.place = place;
         return recorder;
@@ -481,7 +494,8 @@ public final class Recorder implements AutoCloseable {
      * {@code host:7411} or {@code [fe80::1]:7411}, or by a Unix socket, of {@code unix:/run/monitor.sock}. With
      * MONITOR_NOTES=1 each event gets a note beside the file. A connection has no place for notes, keeps no earlier
      * incarnation, and is judged within the limits of a session, so with one {@link Option#NOTES}, {@link Option#AGAIN}
-     * and {@link Option#LONG} are refused. What has a colon and no slash is no folder.
+     * and {@link Option#LONG} are refused. It begins with the token of MONITOR_TOKEN, as with that of
+     * {@link #toPort(String, int, Duration, String)}. What has a colon and no slash is no folder.
      */
     public static Recorder fromEnvironment(String process, Option... options) throws IOException {
         String place = System.getenv().getOrDefault("MONITOR_TO", "");
@@ -499,6 +513,11 @@ public final class Recorder implements AutoCloseable {
 
     /** The same, of a place that is given. */
     public static Recorder toPlace(String process, String place, Option... options) throws IOException {
+        return toPlace(process, place, "", options);
+    }
+
+    /** The same, with a token in place of that of MONITOR_TOKEN, if it isn't empty. */
+    public static Recorder toPlace(String process, String place, String token, Option... options) throws IOException {
         checkedProcess(process);
         Address address = addressOf(place);
         limitsOf(List.of(options));
@@ -514,7 +533,7 @@ public final class Recorder implements AutoCloseable {
             throw refused(Reason.AGAIN, "MONITOR_TO is the connection " + place
                     + ", and only a folder has the recording of an earlier incarnation");
         }
-        return toAddress(process, address, PATIENCE, "MONITOR_TO is " + place, List.of(options));
+        return toAddress(process, address, PATIENCE, "MONITOR_TO is " + place, token, List.of(options));
     }
 
     /** Where {@code monitor serve} listens: on the port of a host, or by a socket with a path, which has port 0. */
@@ -1042,6 +1061,36 @@ public final class Recorder implements AutoCloseable {
 
     private static NotRecordedException refused(Reason reason, String message) {
         return new NotRecordedException(reason, message);
+    }
+
+    /**
+     * What a connection begins with: this token or, if it is empty, that of MONITOR_TOKEN, and a LF; nothing if there
+     * is none. No error shows it. What the environment has and the locale can't say comes as U+FFFD.
+     */
+    private static byte[] tokenLine(String given) {
+        String token = given.isEmpty() ? System.getenv().getOrDefault("MONITOR_TOKEN", "") : given;
+        try {
+            ByteBuffer bytes = StandardCharsets.UTF_8.newEncoder().encode(CharBuffer.wrap(token));
+            boolean isLine = token.chars().noneMatch(letter -> "\n\r\0\uFFFD".indexOf(letter) >= 0);
+            if (isLine && bytes.remaining() <= TOKEN_BYTE_LIMIT) {
+                return token.isEmpty() ? new byte[0] : (token + "\n").getBytes(StandardCharsets.UTF_8);
+            }
+        } catch (CharacterCodingException error) {
+            // it is half a pair of surrogates
+        }
+        throw refused(Reason.TOKEN, (given.isEmpty() ? "MONITOR_TOKEN" : "the token") + " is no token, which is one "
+                + "line of at most " + TOKEN_BYTE_LIMIT + " bytes of UTF-8, without LF, CR, NUL and U+FFFD");
+    }
+
+    /** The same connection, once this is written to it. */
+    private static OutputStream begun(OutputStream connection, byte[] line) throws IOException {
+        try {
+            connection.write(line);
+            return connection;
+        } catch (Throwable error) {
+            connection.close();
+            throw error;
+        }
     }
 
     /** A connection to an address, where nobody may listen yet. */

@@ -70,6 +70,7 @@ fn word_of(error: &Error) -> String {
         Error::Again(_) => "refused again",
         Error::Long(_) => "refused long",
         Error::Where(_) => "refused place",
+        Error::Token(_) => "refused token",
         _ => "failed",
     }
     .to_owned()
@@ -128,13 +129,17 @@ fn make(
                 options.from_environment(&text_of(words[0])),
             ));
         }
-        "port" => {
+        "port" | "token-port" => {
             let patience = Duration::from_secs_f64(words[2].parse().expect("a number of seconds"));
             let port = words[1].parse().expect("a port");
-            return Some(opened(
-                recorder,
-                Recorder::to_port_within(&text_of(words[0]), port, patience),
-            ));
+            let made = match words.get(3) {
+                Some(token) => {
+                    let token = text_of(token);
+                    Recorder::to_port_with_token(&text_of(words[0]), port, &token, patience)
+                }
+                None => Recorder::to_port_within(&text_of(words[0]), port, patience),
+            };
+            return Some(opened(recorder, made));
         }
         #[cfg(unix)]
         "signals" => {

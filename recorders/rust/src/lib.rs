@@ -79,6 +79,8 @@ pub const LONG_PROCESS_LIMIT: usize = 4_096;
 pub const LONG_ID_BYTE_LIMIT: usize = 1_024;
 /// At most so many bytes has a note of its text, and of its place's file: what is longer is cut.
 pub const NOTE_BYTE_LIMIT: usize = 1_024;
+/// At most so many bytes has a token.
+pub const TOKEN_BYTE_LIMIT: usize = 1_024;
 
 const RESERVED: [&str; 5] = ["and", "or", "not", "true", "false"];
 const PATIENCE: Duration = Duration::from_secs(10);
@@ -140,6 +142,8 @@ pub enum Error {
     /// There is no place for notes, since this is a port, or a file whose name doesn't end with `.stream`; or it is the
     /// text of `MONITOR_NOTES`, and is neither 1 nor 0.
     Notes(String),
+    /// The token of this name, the one that is given or `MONITOR_TOKEN`, is over 1,024 bytes, or has a LF, CR or NUL.
+    Token(&'static str),
     /// A thread panicked while it held the [`RecordedMutex`].
     Poisoned,
     /// There is nobody any more at the other end of a [`recorded_channel`].
@@ -212,6 +216,10 @@ impl Error {
                 to,
                 "{text:?} has no place for notes, which go beside a file whose name ends with {ENDING} and to no port; \
                  MONITOR_NOTES is 1 for notes, and else 0 or not set"
+            ),
+            Error::Token(name) => write!(
+                to,
+                "{name} is no token, which is one line of at most {TOKEN_BYTE_LIMIT} bytes, without LF, CR and NUL"
             ),
             Error::NoPlace => write!(
                 to,
@@ -376,7 +384,56 @@ fn host_named(text: &str) -> Option<String> {
 enum Room {
     /// Beside the file of the process.
     Beside(PathBuf, Options),
-    At(Address, Duration),
+    At(Listener),
+}
+
+/// Where `monitor serve` listens, for how long that is waited for, and what each connection begins with.
+struct Listener {
+    address: Address,
+    patience: Duration,
+    token_line: Vec<u8>,
+}
+
+impl Listener {
+    /// A connection that has begun with the token.
+    fn connection(&self) -> io::Result<Box<dyn Write + Send>> {
+        let mut connection = connection_to(&self.address, self.patience)?;
+        connection.write_all(&self.token_line)?;
+        Ok(connection)
+    }
+}
+
+/// This token or, if it is empty, that of `MONITOR_TOKEN`, with its LF; nothing if there is none.
+fn token_line(given: &str) -> Result<Vec<u8>, Error> {
+    let (name, mut line) = if given.is_empty() {
+        ("MONITOR_TOKEN", environment_token()?)
+    } else {
+        ("the token", given.as_bytes().to_vec())
+    };
+    if line.len() > TOKEN_BYTE_LIMIT || line.iter().any(|byte| b"\n\r\0".contains(byte)) {
+        return Err(Error::Token(name));
+    }
+    if !line.is_empty() {
+        line.push(b'\n');
+    }
+    Ok(line)
+}
+
+#[cfg(unix)]
+fn environment_token() -> Result<Vec<u8>, Error> {
+    use std::os::unix::ffi::OsStringExt;
+    Ok(env::var_os("MONITOR_TOKEN").unwrap_or_default().into_vec())
+}
+
+/// Elsewhere it is a text.
+#[cfg(not(unix))]
+fn environment_token() -> Result<Vec<u8>, Error> {
+    let token = env::var_os("MONITOR_TOKEN")
+        .unwrap_or_default()
+        .into_string();
+    Ok(token
+        .map_err(|_| Error::Token("MONITOR_TOKEN"))?
+        .into_bytes())
 }
 
 /// How a file is recorded to.
@@ -565,7 +622,7 @@ impl Options {
             Some(_) if self.again => Err(Error::Again(only)),
             Some(address) => {
                 self.refuse_long(format_args!("MONITOR_TO is {}", text()))?;
-                Recorder::to_address(process, address, PATIENCE)
+                Recorder::to_address(process, address, "", PATIENCE)
             }
             None => {
                 self.limits()?;
@@ -722,18 +779,38 @@ impl Recorder {
 
     /// The same, with another time to wait for somebody who listens.
     pub fn to_port_within(process: &str, port: u16, patience: Duration) -> Result<Self, Error> {
-        check_process(process)?;
-        Options::new().refuse_long(format_args!("the port is {port}"))?;
-        Recorder::to_address(process, Address::here(port), patience)
+        Recorder::to_port_with_token(process, port, "", patience)
     }
 
-    fn to_address(process: &str, address: Address, patience: Duration) -> Result<Self, Error> {
-        let out = connection_to(&address, patience)?;
+    /// The same, with a token. Each connection begins with it, if there is one, as the line that `monitor serve
+    /// --token` asks for: this text or, if it is empty, `MONITOR_TOKEN` in the environment.
+    pub fn to_port_with_token(
+        process: &str,
+        port: u16,
+        token: &str,
+        patience: Duration,
+    ) -> Result<Self, Error> {
+        check_process(process)?;
+        Options::new().refuse_long(format_args!("the port is {port}"))?;
+        Recorder::to_address(process, Address::here(port), token, patience)
+    }
+
+    fn to_address(
+        process: &str,
+        address: Address,
+        token: &str,
+        patience: Duration,
+    ) -> Result<Self, Error> {
+        let listener = Listener {
+            address,
+            patience,
+            token_line: token_line(token)?,
+        };
         Recorder::over(
             process,
-            out,
+            listener.connection()?,
             None,
-            Some(Room::At(address, patience)),
+            Some(Room::At(listener)),
             Limits::SESSION,
         )
     }
@@ -744,7 +821,8 @@ impl Recorder {
     /// `[fe80::1]:7411`, or by a Unix socket, of `unix:/run/monitor.sock`. With `MONITOR_NOTES=1` each event gets a
     /// note beside the file. A connection has no place for notes, keeps no earlier incarnation, and is judged within
     /// the limits of a session, so with one notes are [`Error::Notes`], [`Options::again`] is [`Error::Again`], and
-    /// [`Options::long`] is [`Error::Long`]. What has a colon and no slash is no folder.
+    /// [`Options::long`] is [`Error::Long`]. It begins with the token of `MONITOR_TOKEN`, as with that of
+    /// [`Recorder::to_port_with_token`]. What has a colon and no slash is no folder.
     pub fn from_environment(process: &str) -> Result<Self, Error> {
         Options::new().from_environment(process)
     }
@@ -1001,7 +1079,7 @@ impl Family {
                 let (file, notes) = options.open_beside(path, name)?;
                 (Box::new(file), notes)
             }
-            Some(Room::At(address, patience)) => (connection_to(address, *patience)?, None),
+            Some(Room::At(listener)) => (listener.connection()?, None),
         };
         let begun = Recording::begun(name, out, notes, self.limits, true)?;
         let recording = Arc::new(Mutex::new(begun));

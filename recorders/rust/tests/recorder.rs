@@ -218,6 +218,7 @@ fn a_port_on_which_nobody_listens() {
     let connection = TcpStream::connect(listener.local_addr().unwrap()).unwrap();
     // Nobody can listen on a port that is the end of a connection.
     let port = connection.local_addr().unwrap().port();
+    let _alone = TOKENS.lock();
     let nobody = Recorder::to_port_within("left", port, Duration::from_millis(1));
     let said = format!("no connection to 127.0.0.1:{port}: ");
     assert!(
@@ -260,7 +261,42 @@ fn a_place_that_the_environment_names() {
     }
     assert!(matches!(at(place, "and"), Err(Error::ProcessName(_))));
     notes_that_the_environment_names(&into);
+    tokens_that_the_environment_has(&listener);
     fs::remove_dir_all(&folder).unwrap();
+}
+
+/// Held by who connects while the environment may have a token, and by who gives it one.
+static TOKENS: Mutex<()> = Mutex::new(());
+
+fn tokens_that_the_environment_has(listener: &TcpListener) {
+    let _alone = TOKENS.lock();
+    let port = listener.local_addr().unwrap().port();
+    for token in ["a secret\rof two", "a secret\n"] {
+        std::env::set_var("MONITOR_TOKEN", token);
+        let refused = Recorder::to_port("left", port).unwrap_err();
+        assert!(matches!(refused, Error::Token("MONITOR_TOKEN")));
+        assert!(!format!("{refused} {refused:?}").contains("secret"));
+    }
+    #[cfg(unix)]
+    {
+        use std::os::unix::ffi::OsStrExt;
+        std::env::set_var("MONITOR_TOKEN", std::ffi::OsStr::from_bytes(b"\xff"));
+        let recorder = Recorder::to_port("left", port).unwrap();
+        let (mut accepted, _) = listener.accept().unwrap();
+        recorder.end().unwrap();
+        let mut bytes = Vec::new();
+        accepted.read_to_end(&mut bytes).unwrap();
+        assert_eq!(bytes, [b"\xff\n", JOIN.as_bytes(), END.as_bytes()].concat());
+    }
+    std::env::remove_var("MONITOR_TOKEN");
+}
+
+#[test]
+fn tokens_that_are_none() {
+    for token in ["a\0b", "a\n", &"x".repeat(1025)] {
+        let refused = Recorder::to_port_with_token("left", 1, token, Duration::ZERO);
+        assert!(matches!(refused, Err(Error::Token("the token"))));
+    }
 }
 
 fn notes_that_the_environment_names(into: &Path) {
