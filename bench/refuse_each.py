@@ -4,26 +4,26 @@
 An input is a bundle, or a folder with `session.json`, `report` and files `NAME.stream`. A folder is judged from its
 files, by one worker and by two, with --beyond-width and --fail-on, and as a bundle; its report is checked and drawn;
 its run is explored; and its streams are served, with a watcher. Small sessions are run beside them: one that is judged,
-one with messages, which is also served and kept, one with a causal cycle, one with wide levels, and one of sixteen
-processes; and one of width 1, that is judged and served with these two options alone, has predicates for each way to
-answer, and is judged once with others in their place. For each of these runs and each N, counted upward until a run
-meets no refusal, the program runs with its Nth allocation refused; then with its Nth read or receipt failing, its Nth
-write, what it sends to a watcher, its Nth opened file, accepted connection, folder that is made and file that is
-renamed; and with the Nth of all these, and of its sleeps, failing as one does that a signal interrupts. Before these it
-runs once with each allocation slow: a thread that asks for memory under a lock lets the others wait for the lock
-meanwhile, so an unlock that wakes nobody leaves a run without an end.
+one with messages, which is also served and kept, and served to those who join with a token, one with a causal cycle,
+one with wide levels, and one of sixteen processes; and one of width 1, that is judged and served with these two options
+alone, has predicates for each way to answer, and is judged once with others in their place. For each of these runs and
+each N, counted upward until a run meets no refusal, the program runs with its Nth allocation refused; then with its Nth
+read or receipt failing, its Nth write, what it sends to a watcher, its Nth opened file, accepted connection, folder
+that is made and file that is renamed; and with the Nth of all these, and of its sleeps, failing as one does that a
+signal interrupts. Before these it runs once with each allocation slow: a thread that asks for memory under a lock lets
+the others wait for the lock meanwhile, so an unlock that wakes nobody leaves a run without an end.
 
 It must end as a run that is refused nothing; or, for an allocation, with status 4, nothing on standard output and
 `monitor: memory` on standard error; for a read, with status 3 and `monitor: read`, or with what is made of a stream
 that can't be read, or with a page that lacks the lines of a file; for a write, a folder or a renamed file, with status
-3, a prefix of the output and `monitor: write`; for a connection with status 3 and `monitor: network`; and for a file or
-an interruption, which may be of any of these, in one of these ways. What is sent to a watcher changes nothing. A
-server's watcher must be shown what one is shown then, or a prefix of it, but where a stream may fail, which it may see;
-and each file that is kept must be a prefix of what was to be kept, of which a server may say `monitor: write` too if an
-allocation is refused. One that has not ended after a minute is wrong, and
-is killed. The first allocations are the C library's own, and so are those with which it starts threads: a thread that
-can't be started is no failure. The last line says how many runs there were and how many ended otherwise; the status is
-1 if any did. It needs gcc.
+3, a prefix of the output and `monitor: write`; for a connection with status 3 and `monitor: network`, and so for each
+of these if a connection has to join first, since another is waited for then; and for a file or an interruption, which
+may be of any of these, in one of these ways. What is sent to a watcher changes nothing. A server's watcher must be
+shown what one is shown then, or a prefix of it, but where a stream may fail, which it may see; and each file that is
+kept must be a prefix of what was to be kept, of which a server may say `monitor: write` too if an allocation is
+refused. One that has not ended after a minute is wrong, and is killed. The first allocations are the C library's own,
+and so are those with which it starts threads: a thread that can't be started is no failure. The last line says how many
+runs there were and how many ended otherwise; the status is 1 if any did. It needs gcc.
 
 Each server listens on an address of its own, so it makes no difference which ports other programs use meanwhile."""
 import concurrent.futures
@@ -132,10 +132,10 @@ def send(end, stream):
 
 
 def play(server, port, streams, patience, shown):
-    """The peers of a server: its streams connect, then its watcher, which is shown something; then bytes are sent, all
-    streams at once, since the server doesn't read one that has failed."""
+    """The peers of a server: its streams connect, then its watcher, if it has one, which is shown something; then bytes
+    are sent, all streams at once, since the server doesn't read one that has failed."""
     ends = [connect(server, port) for _ in streams]
-    watcher = connect(server, port + 1)
+    watcher = None if shown is None else connect(server, port + 1)
     try:
         if watcher:
             watcher.settimeout(patience)
@@ -173,12 +173,19 @@ def kept_files(folder):
     return {name: contents(os.path.join(folder, name)) for name in names}
 
 
+def joins_first(arguments):
+    """Whether a connection is a stream of the server once it has joined. Who breaks off before is waited for again, and
+    a watcher would be shown what has come of the streams by chance."""
+    return "--join-first" in arguments
+
+
 def serve_once(arguments, streams, folder, number, kind):
     """What a server gives, and its watcher is shown."""
-    port, shown = random.randrange(*PORTS), []
+    port, shown = random.randrange(*PORTS), None if joins_first(arguments) else []
     # If nothing is refused, the watcher is shown something, however long it takes.
     patience = WATCHER_SECONDS if number else None
-    server = subprocess.Popen([*arguments, "--port", str(port), "--watchers", "1"], stdout=subprocess.PIPE,
+    watchers = ["--watchers", "0" if shown is None else "1"]
+    server = subprocess.Popen([*arguments, "--port", str(port), *watchers], stdout=subprocess.PIPE,
                               stderr=subprocess.PIPE, env=surroundings(folder, number, kind))
     peers = threading.Thread(target=play, args=(server, port, streams, patience, shown))
     peers.start()
@@ -190,7 +197,7 @@ def serve_once(arguments, streams, folder, number, kind):
         output, errors = server.communicate()
         status, errors = None, errors + NO_END
     peers.join()
-    return status, output, errors, b"".join(shown)
+    return status, output, errors, b"".join(shown or [])
 
 
 def contents(path):
@@ -218,7 +225,10 @@ def runs_of(program, name, path):
         return [beyond, ("serve beyond the width", serve, [program, "serve", *fail_on, document], parts[1:]),
                 ("judge what is asked", run, [*judge, *asked], b"")]
     keep = [program, "serve", "--keep", os.path.join(path, "kept"), document]
-    kept = [("serve and keep", serve, keep, parts[1:])] if name == "messages" else []
+    joins = [program, "serve", "--join-first", "--token", "x", "--idle", "60", "--wait", "1", document]
+    said = [b"x\n" + part for part in parts[1:]]
+    kept = [("serve and keep", serve, keep, parts[1:]),
+            ("serve those who join", serve, joins, said)] if name == "messages" else []
     return [("judge", run, judge, b""), ("judge by two workers", run, [*judge, "--workers", "2"], b""), beyond,
             ("a bundle", run, [program], b"---\n".join(parts)),
             ("check", run, [program, "check", document, report, *streams], b""),
@@ -311,7 +321,8 @@ def refuse_each(name, take, arguments, given, folder):
             number += 1
             ended, made = take(arguments, given, folder, number, kind)
             runs += 1
-            if not is_right(kind, ended, want):
+            is_late = joins_first(arguments) and ended[:3] == (3, b"", NO_NETWORK)
+            if not is_late and not is_right(kind, ended, want):
                 wrong.append(f"{name}: {kind} {number}: {ended}")
     return runs, wrong
 

@@ -71,6 +71,12 @@ _monitor() {
       return ;;
     --wait)
       return ;;
+    --token)
+      return ;;
+    --token-file)
+      return ;;
+    --idle)
+      return ;;
     --keep)
       return ;;
     --never)
@@ -86,7 +92,7 @@ _monitor() {
     judge) options='--explain --max-time --width --ask --workers --beyond-width --fail-on --format --notes -h --help' ;;
     check) options='--explain --max-time --width --ask --notes -h --help' ;;
     draw) options='--explain --max-time --width --ask --beyond-width --predicate --evidence --from --all --notes -h --help' ;;
-    serve) options='--explain --max-time --width --ask --port --bind --socket --port-file --watchers --wait --keep --workers --beyond-width --fail-on -h --help' ;;
+    serve) options='--explain --max-time --width --ask --port --bind --socket --port-file --watchers --wait --join-first --token --token-file --idle --keep --workers --beyond-width --fail-on -h --help' ;;
     explore) options='--explain --max-time --width --ask --workers --beyond-width --fail-on --never --always --sometimes --notes --link -h --help' ;;
     test) options='--explain --max-time --width --ask --workers --never --always --sometimes -h --help' ;;
     infer) options='--explain --max-time -h --help' ;;

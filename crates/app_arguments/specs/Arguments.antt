@@ -1,5 +1,5 @@
 -- What the arguments after the program's name ask for, as the command line's parser takes them.
-use Rattle.std.specs.Prelude.{◌≡◌, ◌≢◌, ◌⊎◌, ◌↔◌, ◌≤◌, ◌++◌, ⊤, ℕ, Bool, true, false, IsTrue, List, [], codes, map, option_map, unwrap_or, Option, Some, None, IfSome, Ok}
+use Rattle.std.specs.Prelude.{◌≡◌, ◌≢◌, ◌⊎◌, ◌↔◌, ◌≤◌, ◌++◌, ⊤, ℕ, Bool, true, false, IsTrue, List, [], codes, length, map, option_map, unwrap_or, Option, Some, None, IfSome, Ok}
 use Rattle.std.specs.Net.Grammar.{IsIpText}
 use Rattle.std.specs.Str.Parse.{ParsesUnsigned}
 use Rattle.std.specs.declared.net.ip_addr.IpAddr.{IpAddr}
@@ -8,11 +8,12 @@ use Rattle.clap.specs.declared.error.kind.ErrorKind.{ErrorKind}
 use Rattle.clap.specs.declared.error.kind.ErrorKind.TheVariants.{DisplayHelp, DisplayVersion}
 use Rattle.def_format.specs.Documents.{Options}
 use Rattle.def_format.specs.Limits.{worker_limit}
+use Rattle.def_format.specs.Lines.{has_line_feed}
 use Rattle.def_format.specs.Reports.{with_commas}
 use Rattle.app_arguments.specs.Conditions.{AreLawful, text_for}
 use Rattle.app_arguments.specs.Formats.{format_text}
 use Rattle.app_arguments.specs.Places.{Place, OnPort, OnSocket}
-use Rattle.app_arguments.specs.Table.{monitor_app, port_limit, watcher_limit}
+use Rattle.app_arguments.specs.Table.{monitor_app, port_limit, token_limit, watcher_limit}
 use Rattle.app_arguments.specs.Wishes.{or_none_ever, wishes_for}
 use Rattle.judge_runs.specs.Wishes.{Condition, DefinitelyYes, PossiblyNo, PossiblyYes}
 use Rattle.out_picture.specs.Scopes.{Scope}
@@ -97,6 +98,15 @@ IsPlace rows address path file (OnPort of port) =
 IsPlace rows address path file (OnSocket of) =
     (path ≡ Some of) × (first_of (codes "PORT") rows ≡ None) × (address ≡ None) × (file ≡ None)
 
+-- a token: a line that isn't empty, and isn't too long
+abbrev pub IsToken : Text → Type 0
+IsToken token = (1 ≤ length token) × (length token ≤ token_limit) × (has_line_feed token ≡ false)
+
+-- a token is named by its text, or by a file in which it stands, or there is none
+abbrev pub NamesToken : List Row → Type 0
+NamesToken rows =
+    IfSome (first_of (codes "TOKEN") rows) (λ token. IsToken token × (first_of (codes "TOKEN_FILE") rows ≡ None))
+
 -- what a server is asked for
 pub record NamesService (rows : List Row) (document : Text) (place : Place) (port_file : Option Text) (watchers : ℕ)
     (wait : Option ℕ) (keep : Option Text) : Type 0 where
@@ -107,6 +117,7 @@ pub record NamesService (rows : List Row) (document : Text) (place : Place) (por
   pub few_watchers : watchers ≤ watcher_limit
   pub names_wait : MayNameNumber rows (codes "SECONDS") wait
   pub names_keep : first_of (codes "FOLDER") rows ≡ keep
+  pub names_token : NamesToken rows
 
 -- what is wished by the names of three options
 abbrev pub wishes_in : List Row → List Condition

@@ -22,6 +22,10 @@ watcher_limit = 64
 abbrev pub wait_limit : ℕ
 wait_limit = 86400
 
+-- how many bytes a token has at most
+abbrev pub token_limit : ℕ
+token_limit = 1024
+
 -- the greatest number of a column that can be asked for
 abbrev pub column_number_limit : ℕ
 column_number_limit = 4294967295
@@ -86,6 +90,13 @@ placing =
     ∷ option (codes "ADDRESS") (codes "bind") kinds.Text ∷ option (codes "PATH") (codes "socket") kinds.Text
     ∷ option (codes "PORT_FILE") (codes "port-file") kinds.Text ∷ []
 
+-- which connections are streams, and after how many seconds one ends that says nothing
+abbrev pub admitting : List Argument
+admitting =
+    option (codes "JOIN_FIRST") (codes "join-first") kinds.Flag ∷ option (codes "TOKEN") (codes "token") kinds.Text
+    ∷ option (codes "TOKEN_FILE") (codes "token-file") kinds.Text
+    ∷ option (codes "IDLE") (codes "idle") (kinds.Number 1 wait_limit) ∷ []
+
 -- files of notes
 abbrev pub notes : Argument
 notes = option (codes "NOTES") (codes "notes") kinds.Texts
@@ -111,8 +122,8 @@ serve_arguments =
     ++ (record (option (codes "WATCHERS") (codes "watchers") (kinds.Number 0 watcher_limit)) {
       default = Some (codes "0");
     }
-    ∷ option (codes "SECONDS") (codes "wait") (kinds.Number 1 wait_limit)
-    ∷ option (codes "FOLDER") (codes "keep") kinds.Text ∷ judging)
+    ∷ option (codes "SECONDS") (codes "wait") (kinds.Number 1 wait_limit) ∷ [])
+    ++ admitting ++ (option (codes "FOLDER") (codes "keep") kinds.Text ∷ judging)
 
 abbrev pub explore_arguments : List Argument
 explore_arguments =

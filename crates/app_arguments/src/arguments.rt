@@ -2,7 +2,7 @@
 ghost use Rattle.clap.specs.Simple.{app_of, subcommand_of, subcommand_rows_of};
 ghost use Rattle.clap.specs.Values.{kind_of};
 ghost use Rattle.clap.specs.Walk.{Text, all_of, first_of};
-ghost use Rattle.app_arguments.specs.Arguments.{AreConditions, AreTaken, IsAddressText, IsNumberText, IsPlace, IsShownKind, MayNameNumber, NamesAllOptions, NamesExtent, NamesNumber, NamesOptions, NamesPage, NamesScope, NamesService, NamesSession, NamesWorkers, SaysFlag, kind_text, texts_of, wishes_in};
+ghost use Rattle.app_arguments.specs.Arguments.{AreConditions, AreTaken, IsAddressText, IsNumberText, IsPlace, IsShownKind, IsToken, MayNameNumber, NamesAllOptions, NamesExtent, NamesNumber, NamesOptions, NamesPage, NamesScope, NamesService, NamesSession, NamesToken, NamesWorkers, SaysFlag, kind_text, texts_of, wishes_in};
 ghost use Rattle.app_arguments.specs.ConditionViews.{fail_on_view};
 ghost use Rattle.app_arguments.specs.Formats.{format_text};
 ghost use Rattle.app_arguments.specs.Places as places;
@@ -18,16 +18,17 @@ ghost use Rattle.std.specs.Prelude.{◌≡◌, ◌≢◌, ◌≤◌, ℕ, IfErr,
 use super::commands::program_command;
 use super::fail_on::FailOn;
 use super::format::Format;
-use super::help::{EXTENT_USAGE, FORMAT_USAGE, KIND_USAGE, LIST_USAGE, PLACE_USAGE};
+use super::help::{EXTENT_USAGE, FORMAT_USAGE, KIND_USAGE, LIST_USAGE, PLACE_USAGE, TOKEN_USAGE};
 use super::place::Place;
-use super::request::{Judgement, PageOptions, Request, Service, SessionNames, Test};
-use super::table::{PORT_LIMIT, WATCHER_LIMIT};
+use super::request::{Admission, Judgement, PageOptions, Request, Service, SessionNames, Test};
+use super::table::{PORT_LIMIT, TOKEN_LIMIT, WATCHER_LIMIT};
 use super::wishes::{named_wishes, or_none_ever};
 use super::workers::Workers;
 use clap::error::ErrorKind;
 use clap::{ArgMatches, Command, Error};
 use judge_runs::Wish;
 use out_picture::{DrawOptions, Extent, Kind};
+use pd_frames::has_line_feed;
 use pd_spec::Options;
 use std::alloc::{AllocError, Global};
 use std::net::IpAddr;
@@ -400,6 +401,34 @@ fn watchers_of(matches: &ArgMatches<'_>) -> Option<u64>
     Some(number)
 }
 
+/// Whether a text is a token.
+fn is_token(text: &str) -> bool
+    ensures yes { result ≡ true → IsToken text.now }
+    ensures no { result ≡ false → ¬ IsToken text.now }
+{
+    !text.is_empty() && text.len() <= TOKEN_LIMIT && !has_line_feed(text.as_bytes())
+}
+
+/// Which connections are streams of a server, if what is given as its token is one, and no file of one beside it.
+fn admission_of<'a>(matches: &ArgMatches<'a>) -> Option<Admission<'a>>
+    ensures named { IfSome result (λ _. NamesToken (rows_in matches.now)) }
+    ensures unnamed { result ≡ None → ¬ NamesToken (rows_in matches.now) }
+{
+    let token = text_of(matches, "TOKEN");
+    let token_file = text_of(matches, "TOKEN_FILE");
+    if let Some(text) = token {
+        if token_file.is_some() || !is_token(text) {
+            return None;
+        }
+    }
+    Some(Admission {
+        join_first: flag_of(matches, "JOIN_FIRST"),
+        token,
+        token_file,
+        idle: number_of(matches, "IDLE"),
+    })
+}
+
 /// What a server with these options and conditions is asked for, if all else is there.
 fn service_of<'a>(
     matches: &ArgMatches<'a>,
@@ -422,6 +451,9 @@ fn service_of<'a>(
     let Some(workers) = workers_of(matches) else {
         return None;
     };
+    let Some(admission) = admission_of(matches) else {
+        return None;
+    };
     Some(Service {
         spec,
         options,
@@ -429,6 +461,7 @@ fn service_of<'a>(
         port_file: text_of(matches, "PORT_FILE"),
         watchers,
         wait: number_of(matches, "SECONDS"),
+        admission,
         keep: text_of(matches, "FOLDER"),
         fail_on,
         workers,
@@ -562,6 +595,9 @@ fn request_of<'a>(
 fn usage(command: &str, found: &ArgMatches<'_>) -> Option<&'static str> {
     if command == "serve" && place_of(found).is_none() {
         return Some(PLACE_USAGE);
+    }
+    if command == "serve" && admission_of(found).is_none() {
+        return Some(TOKEN_USAGE);
     }
     if format_of(found).is_none() {
         return Some(FORMAT_USAGE);

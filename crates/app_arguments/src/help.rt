@@ -78,6 +78,10 @@ pub(crate) const PLACE_USAGE: &str =
     "either --port or --socket has to be given; --bind wants an IP address and --port; \
 port 0 wants --port-file, and --socket has none";
 
+/// What is wanted of the token of a server.
+pub(crate) const TOKEN_USAGE: &str =
+    "--token wants a text of 1 to 1,024 bytes without a line feed, and no --token-file beside it";
+
 /// What the help says of `check`.
 pub(crate) const CHECK_ABOUT: &str =
     "Checks whether the cuts and paths in a report show what they are printed for";
@@ -127,8 +131,13 @@ is written to the standard output once all of them have ended and all watchers w
 the session is judged, 1 if it is refused, 2 if the arguments are refused, 3 if the document can't be read, a port or \
 a socket can't be bound, a stream can't be accepted or the output can't be written, and 4 if memory runs out.\n\n\
 Without --bind only programs of this machine can connect to the port. With it whoever reaches the address can: nobody \
-is asked who they are, so give it a private network alone. To the socket programs of the same user can connect.\n\n\
+is asked who they are, but for a token, so give it a private network alone. To the socket programs of the same user \
+can connect.\n\n\
 With --wait the status is 3 if not all streams have connected so many seconds after the document was read.\n\n\
+Without --join-first the first connections are the streams, whatever they send. With it a connection that says \
+something else, or nothing for 5 seconds, is closed, and takes no stream's place. --token and --token-file imply \
+--join-first, and ask for a line before.\n\n\
+With --idle a stream ends that says nothing for so many seconds, as if its connection had been closed.\n\n\
 With --keep the status is 3 if something of the session can't be kept, as in a folder that has files already; nothing \
 is ever written over.\n\n\
 With --fail-on the status may be 5, as that of `judge`, whose help says what LIST is.\n\n\

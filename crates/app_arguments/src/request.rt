@@ -43,6 +43,31 @@ pub struct PageOptions<'a> {
     pub link: Option<&'a str>,
 }
 
+/// Which connections are streams of a server.
+#[derive(Clone, Copy)]
+pub struct Admission<'a> {
+    /// Whether a connection is a stream only once its first line joins a process that has none.
+    pub join_first: bool,
+    /// The line that has to come before that one.
+    pub token: Option<&'a str>,
+    /// The name of the file whose first line is that line.
+    pub token_file: Option<&'a str>,
+    /// After how many seconds, from 1 to 86,400, a stream ends that says nothing.
+    pub idle: Option<u64>,
+}
+
+impl Admission<'_> {
+    /// Whether a connection has to say something before it is a stream.
+    pub fn asks(&self) -> bool {
+        self.join_first || self.has_token()
+    }
+
+    /// Whether a token has to be said.
+    pub fn has_token(&self) -> bool {
+        self.token.is_some() || self.token_file.is_some()
+    }
+}
+
 /// What a server is asked for.
 #[derive(Drop)]
 pub struct Service<'a> {
@@ -58,6 +83,8 @@ pub struct Service<'a> {
     pub watchers: u64,
     /// How many seconds the streams are waited for, from 1 to 86,400, if that has an end.
     pub wait: Option<u64>,
+    /// Which connections are streams.
+    pub admission: Admission<'a>,
     /// The name of the folder in which the session is kept, if it is.
     pub keep: Option<&'a str>,
     /// The answers to fail on.

@@ -16,6 +16,9 @@ pub(crate) const WATCHER_LIMIT: u64 = 64;
 /// The greatest number of seconds for which streams are waited: a day.
 const WAIT_LIMIT: u64 = 86_400;
 
+/// The most bytes of a token.
+pub const TOKEN_LIMIT: usize = 1_024;
+
 /// The greatest number of a column that can be asked for.
 const COLUMN_NUMBER_LIMIT: u64 = 4_294_967_295;
 
@@ -335,6 +338,54 @@ fn wait() -> Row
     )
 }
 
+/// Which connections are streams.
+fn join_first() -> Row
+    ensures { row_view result ≡ option (codes "JOIN_FIRST") (codes "join-first") kinds.Flag }
+{
+    option(
+        "JOIN_FIRST",
+        "join-first",
+        ArgumentKind::Flag,
+        "Make a connection a stream once its first line joins a process that has none, and close each other one",
+    )
+}
+
+/// What connections have to say first.
+fn token() -> Row
+    ensures { row_view result ≡ option (codes "TOKEN") (codes "token") kinds.Text }
+{
+    option(
+        "TOKEN",
+        "token",
+        ArgumentKind::Text,
+        "The line that each connection has to send before the first line of its stream; else it is closed",
+    )
+}
+
+/// The file of what connections have to say first.
+fn token_file() -> Row
+    ensures { row_view result ≡ option (codes "TOKEN_FILE") (codes "token-file") kinds.Text }
+{
+    option(
+        "TOKEN_FILE",
+        "token-file",
+        ArgumentKind::Text,
+        "A file whose first line is that line, so that no other user of this machine sees it among the arguments",
+    )
+}
+
+/// When a stream ends that says nothing.
+fn idle() -> Row
+    ensures { row_view result ≡ option (codes "IDLE") (codes "idle") (kinds.Number 1 wait_limit) }
+{
+    option(
+        "IDLE",
+        "idle",
+        ArgumentKind::Number(1, WAIT_LIMIT),
+        "After how many seconds, at most 86400, in which it says nothing a stream ends; without it never",
+    )
+}
+
 /// The folder in which a session is kept.
 fn keep() -> Row
     ensures { row_view result ≡ option (codes "FOLDER") (codes "keep") kinds.Text }
@@ -534,7 +585,7 @@ pub(crate) fn draw_arguments() -> [Row; 11]
 }
 
 /// What `serve` takes, in the order of its help.
-pub(crate) fn serve_arguments() -> [Row; 14]
+pub(crate) fn serve_arguments() -> [Row; 18]
     ensures { map row_view result ≡ serve_arguments }
 {
     [
@@ -548,6 +599,10 @@ pub(crate) fn serve_arguments() -> [Row; 14]
         port_file(),
         watchers(),
         wait(),
+        join_first(),
+        token(),
+        token_file(),
+        idle(),
         keep(),
         workers(),
         beyond_width(),

@@ -13,7 +13,7 @@ const OUTPUT: &str = "/dev/stdout";
 const INPUT: &str = "/dev/stdin";
 
 /// The name by which the system knows the file of this name: `-` is the input.
-fn system_name(name: &str) -> &str {
+pub(crate) fn system_name(name: &str) -> &str {
     if name == "-" { INPUT } else { name }
 }
 

@@ -1,61 +1,175 @@
 //! A connection of the system.
+use std::alloc::{AllocError, Global};
 use std::io;
-use std::io::{Read, Write};
+use std::io::{ErrorKind, Read, Write};
 use std::net::OpenStream;
 use std::os::unix::net::UnixStream;
+use std::time::Duration;
 
-/// One end of a connection that was made to a port, or to a socket.
+/// How many bytes are taken in at once at most.
+const PIECE: usize = 4_096;
+
+/// What connects this program with a peer.
 #[derive(Drop)]
-pub enum PlaceConnection<S> {
-    /// To a port.
+pub enum Link<S> {
+    /// A connection to a port.
     Port(S),
-    /// To a socket.
+    /// A connection to a socket.
     Socket(UnixStream),
 }
 
+/// One end of a connection that was made to a port, or to a socket. Bytes may be taken in before they are read.
+#[derive(Drop)]
+pub struct PlaceConnection<S> {
+    link: Link<S>,
+    /// The bytes that were taken in, if any were.
+    taken: Option<Vec<u8>>,
+    /// How many of these were read.
+    read: usize,
+}
+
+impl<S> PlaceConnection<S> {
+    /// The connection of this link, of which nothing was taken in.
+    pub(crate) fn new(link: Link<S>) -> PlaceConnection<S> {
+        PlaceConnection {
+            link,
+            taken: None,
+            read: 0,
+        }
+    }
+
+    /// What connects it with its peer.
+    pub(crate) fn link(&self) -> &Link<S> {
+        &self.link
+    }
+
+    /// The bytes that were taken in and not read yet.
+    pub(crate) fn taken(&self) -> &[u8] {
+        match &self.taken {
+            Some(taken) => taken.get(self.read..).unwrap_or(&[]),
+            None => &[],
+        }
+    }
+
+    /// Passes over this many of the bytes that were taken in.
+    pub(crate) fn skip(&mut self, count: usize) {
+        self.read = self.read.saturating_add(count);
+    }
+
+    /// Keeps these bytes for later reads, after what was taken in before.
+    fn keep(&mut self, alloc: Global, bytes: &[u8]) -> Result<(), AllocError> {
+        if let Some(taken) = &mut self.taken {
+            taken.extend_from_slice(bytes)?;
+            return Ok(());
+        }
+        self.taken = Some(Vec::from_slice(alloc, bytes)?);
+        Ok(())
+    }
+}
+
 impl<S: OpenStream> PlaceConnection<S> {
-    /// Puts the first bytes that have come into the piece, and gives how many they are. It waits for none. Those that
-    /// came to a socket are lost to whoever reads later: the system's own reading that leaves them isn't there for one.
+    /// Has it wait for what comes, or not.
+    ///
+    /// # Errors
+    /// If that can't be had.
+    pub(crate) fn set_nonblocking(&self, is_nonblocking: bool) -> io::Result<()> {
+        match &self.link {
+            Link::Port(stream) => stream.set_nonblocking(is_nonblocking),
+            Link::Socket(stream) => stream.set_nonblocking(is_nonblocking),
+        }
+    }
+
+    /// Has a read take it for the end if nothing comes for so long.
+    ///
+    /// # Errors
+    /// If that can't be had.
+    pub(crate) fn limit_silence(&self, silence: Duration) -> io::Result<()> {
+        match &self.link {
+            Link::Port(stream) => stream.set_read_timeout(Some(silence)),
+            Link::Socket(stream) => stream.set_read_timeout(Some(silence)),
+        }
+    }
+
+    /// Puts the first bytes that have come and weren't read into the piece, and gives how many they are. It waits for
+    /// none. Those that came to a socket are lost to whoever reads later: the system's own reading that leaves them
+    /// isn't there for one.
     pub(crate) fn first_bytes(&self, piece: &mut [u8]) -> usize {
-        match self {
-            PlaceConnection::Port(connection) => {
-                if connection.set_nonblocking(true).is_err() {
-                    return 0;
-                }
-                connection.peek(piece).unwrap_or(0)
-            }
-            PlaceConnection::Socket(connection) => {
-                if connection.set_nonblocking(true).is_err() {
-                    return 0;
-                }
-                let mut reader = connection;
+        let mut taken = self.taken();
+        if !taken.is_empty() {
+            return taken.read(piece).unwrap_or(0);
+        }
+        if self.set_nonblocking(true).is_err() {
+            return 0;
+        }
+        match &self.link {
+            Link::Port(stream) => stream.peek(piece).unwrap_or(0),
+            Link::Socket(stream) => {
+                let mut reader = stream;
                 reader.read(piece).unwrap_or(0)
             }
         }
     }
 }
 
-impl<S: Read> Read for PlaceConnection<S> {
+impl<S: Read> PlaceConnection<S> {
+    /// Takes in the next bytes that have come, if any have, and gives whether more may come. A connection that is to be
+    /// waited for has to be one that doesn't wait.
+    ///
+    /// # Errors
+    /// Out of memory.
+    pub(crate) fn take_in(&mut self, alloc: Global) -> Result<bool, AllocError> {
+        let mut piece = [0u8; PIECE];
+        match self.link.read(&mut piece) {
+            Ok(0) => Ok(false),
+            Ok(count) => {
+                self.keep(alloc, piece.get(..count).unwrap_or(&[]))?;
+                Ok(true)
+            }
+            Err(error) => Ok(matches!(
+                error.kind(),
+                ErrorKind::WouldBlock | ErrorKind::Interrupted
+            )),
+        }
+    }
+}
+
+impl<S: Read> Read for Link<S> {
     fn read(&mut self, piece: &mut [u8]) -> io::Result<usize> {
         match self {
-            PlaceConnection::Port(connection) => connection.read(piece),
-            PlaceConnection::Socket(connection) => connection.read(piece),
+            Link::Port(stream) => stream.read(piece),
+            Link::Socket(stream) => stream.read(piece),
+        }
+    }
+}
+
+impl<S: Read> Read for PlaceConnection<S> {
+    /// What was taken in comes first. A peer that says nothing for as long as silence is limited to has ended.
+    fn read(&mut self, piece: &mut [u8]) -> io::Result<usize> {
+        let mut taken = self.taken();
+        if !taken.is_empty() {
+            let count = taken.read(piece)?;
+            self.skip(count);
+            return Ok(count);
+        }
+        match self.link.read(piece) {
+            Err(error) if error.kind() == ErrorKind::WouldBlock => Ok(0),
+            outcome => outcome,
         }
     }
 }
 
 impl<S: Write> Write for PlaceConnection<S> {
     fn write(&mut self, bytes: &[u8]) -> io::Result<usize> {
-        match self {
-            PlaceConnection::Port(connection) => connection.write(bytes),
-            PlaceConnection::Socket(connection) => connection.write(bytes),
+        match &mut self.link {
+            Link::Port(stream) => stream.write(bytes),
+            Link::Socket(stream) => stream.write(bytes),
         }
     }
 
     fn flush(&mut self) -> io::Result<()> {
-        match self {
-            PlaceConnection::Port(connection) => connection.flush(),
-            PlaceConnection::Socket(connection) => connection.flush(),
+        match &mut self.link {
+            Link::Port(stream) => stream.flush(),
+            Link::Socket(stream) => stream.flush(),
         }
     }
 }

@@ -1,5 +1,5 @@
 //! What listens for connections of the system.
-use super::place_connection::PlaceConnection;
+use super::place_connection::{Link, PlaceConnection};
 use super::private_files::bind_private;
 use std::net::{Net, OpenListener};
 use std::os::unix::net::UnixListener;
@@ -54,11 +54,11 @@ impl<L: OpenListener, R: Files + Copy> PlaceListener<L, R> {
         match self {
             PlaceListener::Port(listener) => {
                 let (connection, _) = listener.accept()?;
-                Ok(PlaceConnection::Port(connection))
+                Ok(PlaceConnection::new(Link::Port(connection)))
             }
             PlaceListener::Socket(socket) => {
                 let (connection, _) = socket.listener.accept()?;
-                Ok(PlaceConnection::Socket(connection))
+                Ok(PlaceConnection::new(Link::Socket(connection)))
             }
         }
     }

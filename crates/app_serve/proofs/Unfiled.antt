@@ -1,6 +1,6 @@
--- What is left where the ports can't be written into their file.
+-- What is left where the session can't be kept, or the ports not be written into their file.
 use Rattle.std.proofs.Common.{◌≡◌, ℕ, List, Option, None, inl, inr, subst, sym}
-use Rattle.std.specs.Prelude.{◌≢◌, ◌⊎◌, Result, Err}
+use Rattle.std.specs.Prelude.{◌≢◌, ◌⊎◌, Result, Err, IfErr}
 use Rattle.app_host.proofs.UnreadFiles.{keeps_same}
 use Rattle.app_serve.specs.Kept.{WritesFiles}
 use Rattle.def_format.specs.Documents.{Inquiry}
@@ -20,14 +20,14 @@ pub unfiled : (fail_on : List Condition) (document : Inquiry) (G : Source → Ty
     → ((fault ≡ faults.Unkept) × (port_file ≢ None)) ⊎ (fault ≡ faults.Engine engine.Memory) → HoldsDocument document
     → ReadLeaves (OfConnections G MayNotServe (WritesFiles keep port_file) fail_on document)
     (service_ending fail_on result) old old
-unfiled fail_on document G MayNotServe keep port_file old result fault is (inl unkept) holds =
+unfiled fail_on document G MayNotServe keep port_file old result fault is (inl fails) holds =
     subst (λ (r : Result Report ServiceFault).
     ReadLeaves (OfConnections G MayNotServe (WritesFiles keep port_file) fail_on document)
     (service_ending fail_on r) old old)
     (sym is) (subst (λ (f : ServiceFault).
     ReadLeaves (OfConnections G MayNotServe (WritesFiles keep port_file) fail_on document)
     (service_ending fail_on (Err f)) old old)
-    (sym unkept.0) (inr (inr unkept.1, holds, keeps_same old)))
+    (sym fails.0) (inr (inr fails.1, holds, keeps_same old)))
 unfiled fail_on document G MayNotServe keep port_file old result fault is (inr memory) holds =
     subst (λ (r : Result Report ServiceFault).
     ReadLeaves (OfConnections G MayNotServe (WritesFiles keep port_file) fail_on document)
@@ -36,3 +36,37 @@ unfiled fail_on document G MayNotServe keep port_file old result fault is (inr m
     ReadLeaves (OfConnections G MayNotServe (WritesFiles keep port_file) fail_on document)
     (service_ending fail_on (Err f)) old old)
     (sym memory) (keeps_same old))
+
+-- the same where the folder can't be made, or a file in it
+pub unkept : (fail_on : List Condition) (document : Inquiry) (G : Source → Type 0) (MayNotServe : Type 0)
+    (keep port_file old : Option (List ℕ)) (result : Result Report ServiceFault) (fault : ServiceFault)
+    → result ≡ Err fault
+    → ((fault ≡ faults.Unkept) × (keep ≢ None)) ⊎ (fault ≡ faults.Engine engine.Memory) → HoldsDocument document
+    → ReadLeaves (OfConnections G MayNotServe (WritesFiles keep port_file) fail_on document)
+    (service_ending fail_on result) old old
+unkept fail_on document G MayNotServe keep port_file old result fault is (inl fails) holds =
+    subst (λ (r : Result Report ServiceFault).
+    ReadLeaves (OfConnections G MayNotServe (WritesFiles keep port_file) fail_on document)
+    (service_ending fail_on r) old old)
+    (sym is) (subst (λ (f : ServiceFault).
+    ReadLeaves (OfConnections G MayNotServe (WritesFiles keep port_file) fail_on document)
+    (service_ending fail_on (Err f)) old old)
+    (sym fails.0) (inr (inl fails.1, holds, keeps_same old)))
+unkept fail_on document G MayNotServe keep port_file old result fault is (inr memory) holds =
+    unfiled fail_on document G MayNotServe keep port_file old result fault is (inr memory) holds
+
+-- which faults these are
+pub unfiled_fault : (keep port_file : Option (List ℕ)) (result : Result Report ServiceFault) (fault : ServiceFault)
+    → result ≡ Err fault
+    → ((fault ≡ faults.Unkept) × (port_file ≢ None)) ⊎ (fault ≡ faults.Engine engine.Memory)
+    → IfErr result (λ (f : ServiceFault). (f ≡ faults.Network) ⊎ (f ≡ faults.Late)
+    ⊎ ((f ≡ faults.Unkept) × WritesFiles keep port_file) ⊎ (f ≡ faults.Engine engine.Memory)
+    ⊎ (f ≡ faults.Engine engine.Write))
+unfiled_fault keep port_file result fault is (inl fails) =
+    subst (λ (r : Result Report ServiceFault). IfErr r (λ (f : ServiceFault). (f ≡ faults.Network) ⊎ (f ≡ faults.Late)
+    ⊎ ((f ≡ faults.Unkept) × WritesFiles keep port_file) ⊎ (f ≡ faults.Engine engine.Memory)
+    ⊎ (f ≡ faults.Engine engine.Write))) (sym is) (inr (inr (inl (fails.0, inr fails.1))))
+unfiled_fault keep port_file result fault is (inr memory) =
+    subst (λ (r : Result Report ServiceFault). IfErr r (λ (f : ServiceFault). (f ≡ faults.Network) ⊎ (f ≡ faults.Late)
+    ⊎ ((f ≡ faults.Unkept) × WritesFiles keep port_file) ⊎ (f ≡ faults.Engine engine.Memory)
+    ⊎ (f ≡ faults.Engine engine.Write))) (sym is) (inr (inr (inr (inl memory))))

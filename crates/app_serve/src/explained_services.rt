@@ -3,6 +3,7 @@ use super::host::Host;
 use super::place_names::{streams_name, watchers_name};
 use super::senders::{known_senders, senders};
 use super::service_fault::ServiceFault;
+use super::strangers::{explain_unread_token, say_idle, say_strangers};
 use app_ends::{put_fault, put_reasons, put_report, put_unknown_condition, rows_of, seen_document};
 use app_explain::{
     Seen, SeenStream, StreamFault, StreamWord, explain_connection, explain_sent_stream,
@@ -17,8 +18,11 @@ use std::random::RandomSource;
 use std::sync::Wait;
 use std::thread::Threads;
 
-/// Explains which place can't be bound, and why, or that a connection failed.
+/// Explains that the file of the token can't be read, which place can't be bound, and why, or that a connection failed.
 fn put_network<F, N>(out: &mut Vec<u8>, host: &Host<'_, F, N>) -> Result<(), AllocError> {
+    if let Some(why) = host.peers.unread_token() {
+        return explain_unread_token(out, why);
+    }
     let streams = streams_name(host)?;
     let watchers = watchers_name(host)?;
     match host.peers.unbound() {
@@ -52,7 +56,8 @@ fn put_wait<F, N>(out: &mut Vec<u8>, host: &Host<'_, F, N>) -> Result<(), AllocE
     let known = known_senders(host.alloc, host.peers, host.peers.count())?;
     let senders = senders(host.alloc, host.peers, &known)?;
     let seconds = service.wait.unwrap_or(0);
-    explain_wait(out, spec.names(), place.shown(), seconds, &senders)
+    explain_wait(out, spec.names(), place.shown(), seconds, &senders)?;
+    say_strangers(out, host)
 }
 
 /// Explains why a stream is refused, and who sent it.
@@ -65,7 +70,11 @@ fn put_stream<F, N>(
     let senders = senders(host.alloc, host.peers, &known)?;
     let spec = spec_of(host);
     let names = spec.as_ref().map(|spec| spec.names());
-    explain_sent_stream(out, host.alloc, names, fault, &senders)
+    explain_sent_stream(out, host.alloc, names, fault, &senders)?;
+    if fault.word == StreamWord::Unended {
+        say_idle(out, host)?;
+    }
+    Ok(())
 }
 
 /// What the stream at this place is called: by its file, if it is kept.

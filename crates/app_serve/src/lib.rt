@@ -1,6 +1,8 @@
 //! Judges a session whose streams come by connections, and keeps it, if that is asked for.
 //!
 //! - `server`: judges a session whose streams come by connections
+//! - `arrivals`: accepts the connections that are streams
+//! - `strangers`: tells of those that are closed before they are streams
 //! - `host`: what a server works with
 //! - `service_fault`: why a server gives no report
 //! - `service_status`: the exit status of a server's run
@@ -20,6 +22,7 @@
 //! - `recording_source`: records a stream, and keeps it, while it is read
 #![tactic(auto)]
 
+mod arrivals;
 mod explained_services;
 mod host;
 mod keeping;
@@ -37,6 +40,7 @@ mod service_fault;
 mod service_notices;
 mod service_status;
 mod start_recorder;
+mod strangers;
 mod watchers;
 
 pub use explained_services::service_text;

@@ -4,7 +4,7 @@ use def_format::PROCESS_LIMIT;
 use std::alloc::{AllocError, Global};
 use std::io;
 use std::sync::OnceLock;
-use std::sync::atomic::{AtomicBool, Ordering};
+use std::sync::atomic::{AtomicBool, AtomicU64, Ordering};
 
 /// Who sends the streams, in the order in which they connected; or nobody, if that isn't wanted.
 #[derive(Drop)]
@@ -19,6 +19,12 @@ pub struct Peers {
     unfiled: OnceLock<String>,
     /// Whether the place that couldn't be bound is that of the watchers, and why it couldn't.
     unbound: OnceLock<(bool, String)>,
+    /// The file of the token that couldn't be read, and why.
+    unread_token: OnceLock<String>,
+    /// How many connections were closed before they were streams.
+    strangers: AtomicU64,
+    /// How many connections were neither streams nor closed when the time was over.
+    waiting: AtomicU64,
     /// The port that is bound for the streams.
     port: OnceLock<u16>,
     /// The port that is bound for the watchers.
@@ -53,6 +59,9 @@ impl Peers {
             unkept: OnceLock::new(),
             unfiled: OnceLock::new(),
             unbound: OnceLock::new(),
+            unread_token: OnceLock::new(),
+            strangers: AtomicU64::new(0),
+            waiting: AtomicU64::new(0),
             port: OnceLock::new(),
             watchers_port: OnceLock::new(),
         }
@@ -84,6 +93,41 @@ impl Peers {
             Some(text) => Some(text.as_str()),
             None => None,
         }
+    }
+
+    /// Notes that the file of the token couldn't be read, and why.
+    pub fn note_unread_token(&self, alloc: Global, name: &str, error: &io::Error) {
+        if let Ok(text) = format!(in alloc; "{name}: {error}") {
+            let _ = self.unread_token.try_set(text);
+        }
+    }
+
+    /// Why the file of the token couldn't be read, if that was noted.
+    pub fn unread_token(&self) -> Option<&str> {
+        match self.unread_token.get() {
+            Some(text) => Some(text.as_str()),
+            None => None,
+        }
+    }
+
+    /// Notes that a connection was closed before it was a stream, and gives how many were before.
+    pub fn note_stranger(&self) -> u64 {
+        self.strangers.fetch_add(1, Ordering::SeqCst)
+    }
+
+    /// How many connections were closed before they were streams.
+    pub fn strangers(&self) -> u64 {
+        self.strangers.load(Ordering::SeqCst)
+    }
+
+    /// Notes how many connections were neither streams nor closed when the time was over.
+    pub fn note_waiting(&self, count: usize) {
+        self.waiting.store(count as u64, Ordering::SeqCst);
+    }
+
+    /// How many connections were neither streams nor closed when the time was over.
+    pub fn waiting(&self) -> u64 {
+        self.waiting.load(Ordering::SeqCst)
     }
 
     /// Notes that the place of the streams, or that of the watchers, couldn't be bound, and why.

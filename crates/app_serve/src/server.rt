@@ -17,6 +17,7 @@ ghost use Rattle.judge_session.specs.Inquiries.{inquiry_view};
 ghost use Rattle.pd_spec.specs.Views.{IsFaultOf, document_view, options_view};
 ghost use Rattle.std.specs.Prelude.{◌≡◌, ◌⊎◌, ◌↔◌, ◌<◌, ◌∷◌, ℕ, All, List, Option, Err, IfErr, IfOk, IfSome, IsOk, IsSome, MatchResult, None, Ok, Some, [], false, length, map, true};
 
+use super::arrivals::{Entrance, next_stream, room_for};
 use super::host::Host;
 use super::keeping::Keeping;
 use super::kept_session::{begin_keeping, end_keeping};
@@ -30,8 +31,8 @@ use super::service_notices::ServiceNotices;
 use super::watchers::Watchers;
 use app_arguments::{Place, Workers};
 use app_host::{
-    FileSource, Network, NotedSource, System, World, is_out_of_memory, judge_read, open_noted,
-    read_document,
+    FileSource, Network, NotedSource, Room, System, World, is_out_of_memory, judge_read,
+    open_noted, read_document,
 };
 use def_judgement::one_document;
 use judge_session::EngineFault;
@@ -144,32 +145,27 @@ fn note_address<F, N: Network>(
 /// Accepts a stream, which is the one of this number, counted from 0, and notes its address for its peer.
 ///
 /// # Errors
-/// `Network`, if it can't be accepted, and `Late`, if it doesn't come in time.
+/// `Network`, if it can't be accepted, `Late`, if it doesn't come in time, and `Memory`.
 fn accept_stream<'a, F, N: Network, W: Write + Drop, T: Notices>(
     host: &Host<'a, F, N>,
-    listener: &N::Listener,
-    end: Option<Instant>,
+    entrance: &Entrance<N::Listener>,
+    room: &mut Option<Room<'_, N::Connection>>,
     place: usize,
     keeping: Option<Keeping<'a, W, T>>,
     notices: &'a T,
 ) -> Result<RecordingSource<'a, N::Connection, W, T>, ServiceFault>
-    ensures given { IfOk result (λ stream. (at : places.Place) → N.is_on listener.now at
+    ensures given { IfOk result (λ stream. (at : places.Place) → N.is_on entrance.now.listener at
         → N.may_give host.now.network.now at (N.Connection.left stream.source.source)) }
     ensures open { IfOk result (λ stream. N.Connection.has_ended stream.source.source ≡ false) }
-    ensures sure { end ≡ None → N.never_fails ≡ true → IsOk result }
+    ensures sure { entrance.now.end ≡ None → N.never_fails ≡ true → IsOk result }
     ensures err { IfErr result (λ fault. (fault ≡ faults.Network) ⊎ (fault ≡ faults.Late)
         ⊎ (fault ≡ faults.Engine EngineFault.Memory)) }
 {
-    match host.network.next_connection(listener, end) {
-        Ok(Some(connection)) => {
-            note_address(host, &connection, host.peers.at(place));
-            notices.has_connected(place);
-            let source = NotedSource::new(host.alloc, connection, host.notes.stream(place));
-            Ok(RecordingSource::new(host.alloc, source, place, host.peers, keeping, notices))
-        }
-        Ok(None) => Err(ServiceFault::Late),
-        Err(_) => Err(ServiceFault::Network),
-    }
+    let connection = next_stream(host, entrance, room)?;
+    note_address(host, &connection, host.peers.at(place));
+    notices.has_connected(place);
+    let source = NotedSource::new(host.alloc, connection, host.notes.stream(place));
+    Ok(RecordingSource::new(host.alloc, source, place, host.peers, keeping, notices))
 }
 
 /// Accepts this many streams at a place, and gives the place up. Of each it is noted who sends it; they are kept by
@@ -179,28 +175,29 @@ fn accept_stream<'a, F, N: Network, W: Write + Drop, T: Notices>(
 /// `Network`, if one can't be accepted, `Late`, if one doesn't come in time, and `Memory`.
 fn accept_streams<'a, F, N: Network, W: Write + Drop, T: Notices>(
     host: &Host<'a, F, N>,
-    listener: N::Listener,
+    entrance: Entrance<N::Listener>,
+    room: Option<Room<'_, N::Connection>>,
     count: usize,
-    end: Option<Instant>,
     kept: Vec<Keeping<'a, W, T>>,
     notices: &'a T,
 ) -> Result<Vec<RecordingSource<'a, N::Connection, W, T>>, ServiceFault>
     ensures count { IfOk result (λ streams. length streams.items ≡ count) }
-    ensures given { IfOk result (λ streams. (at : places.Place) → N.is_on listener at
+    ensures given { IfOk result (λ streams. (at : places.Place) → N.is_on entrance.listener at
         → All (λ stream. N.may_give host.now.network.now at (N.Connection.left stream.source.source))
         streams.items) }
     ensures open { IfOk result (λ streams.
         All (λ stream. N.Connection.has_ended stream.source.source ≡ false) streams.items) }
-    ensures sure { end ≡ None → N.never_fails ≡ true
+    ensures sure { entrance.end ≡ None → N.never_fails ≡ true
         → IfErr result (λ fault. fault ≡ faults.Engine EngineFault.Memory) }
     ensures err { IfErr result (λ fault. (fault ≡ faults.Network) ⊎ (fault ≡ faults.Late)
         ⊎ (fault ≡ faults.Engine EngineFault.Memory)) }
 {
     let mut streams = Vec::new(host.alloc);
     let mut kept = kept;
+    let mut room = room;
     for place in 0..count {
         let keeping = kept.pop();
-        match accept_stream(host, &listener, end, place, keeping, notices) {
+        match accept_stream(host, &entrance, &mut room, place, keeping, notices) {
             Ok(stream) => streams.push(stream)?,
             Err(fault) => {
                 note_starts(host, &streams);
@@ -317,6 +314,7 @@ fn serve_session<
     one_document();
     let service = host.service;
     let end = wait_end(host.network, service.wait)?;
+    let room = room_for(host, spec)?;
     let listener = bind(host, &service.place, false)?;
     let watchers = Watchers {
         network: host.network,
@@ -331,7 +329,8 @@ fn serve_session<
     write_port_file(host)?;
     notices.listens();
     let count = spec.names().processes();
-    let streams = accept_streams(host, listener, count, end, kept, &notices)?;
+    let entrance = Entrance { listener, end };
+    let streams = accept_streams(host, entrance, room, count, kept, &notices)?;
     service_end(judge_accepted(rt, host, inquiry, streams, &watchers, output))
 }
 

@@ -2,8 +2,9 @@
 use super::host::Host;
 use super::kept_session::stream_names;
 use super::notices::Notices;
-use super::place_names::{streams_name, watchers_name};
+use super::place_names::{PlaceName, streams_name, watchers_name};
 use super::senders::{known_senders, senders};
+use super::strangers::{door_text, open_door_text};
 use app_arguments::Place;
 use app_ends::rows_of;
 use app_explain::{
@@ -84,6 +85,9 @@ fn is_open(place: &Place<'_>) -> bool {
 fn open_text<F, N>(host: &Host<'_, F, N>) -> Result<Vec<u8>, AllocError> {
     let mut out = Vec::new(host.alloc);
     let place = streams_name(host)?;
+    if let (PlaceName::Address(text), true) = (&place, host.service.admission.has_token()) {
+        return open_door_text(host.alloc, text.as_bytes());
+    }
     warn_of_open(&mut out, place.shown())?;
     Ok(out)
 }
@@ -172,12 +176,23 @@ fn told_rows<F, N>(host: &Host<'_, F, N>, text: Result<Vec<u8>, AllocError>) -> 
 }
 
 impl<'a, F, N: Network> ServiceNotices<'a, F, N> {
+    /// Tells what a connection has to say before it is a stream, if it has to, and that is wanted.
+    fn tell_door(&self) {
+        if !self.host.service.admission.asks() {
+            return;
+        }
+        if let Some(rows) = told_rows(self.host, door_text(self.host)) {
+            self.host.network.tell(&rows);
+        }
+    }
+
     /// Tells where the streams and watchers are waited for, if that is wanted, and in any case that others than this
     /// machine may connect, if that is so.
     pub fn listens(&self) {
         if let Some(rows) = told_rows(self.host, places_text(self.host, self.spec)) {
             self.host.network.tell(&rows);
         }
+        self.tell_door();
         if let Some(rows) = open_rows(self.host) {
             self.host.network.tell(&rows);
         }

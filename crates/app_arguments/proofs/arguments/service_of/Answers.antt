@@ -16,3 +16,7 @@ returns-in_default-watchers_of-clause-found c document place port_file watchers 
 pub returns-in_default-workers_of-clause-found : goal.returns-in_default-workers_of-clause-found
 returns-in_default-workers_of-clause-found c document place port_file watchers wait keep names some =
     no_workers (rows_in c.args.matches.now) c.workers_of.result c.workers_of.ensures c.in_default-workers_of.is some
+
+pub returns-in_default-admission_of-clause-found : goal.returns-in_default-admission_of-clause-found
+returns-in_default-admission_of-clause-found c document place port_file watchers wait keep names some =
+    c.admission_of.ensures.unnamed c.in_default-admission_of.is names.names_token

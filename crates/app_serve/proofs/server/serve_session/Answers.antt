@@ -9,7 +9,7 @@ use Rattle.def_judgement.specs.Writes.{Source}
 use Rattle.judge_session.specs.Inquiries.{inquiry_view}
 use Rattle.app_serve.specs.Kept.{AsksForFiles}
 use Rattle.app_serve.proofs.Accepted.{accepted_of_read, service_of_judgement}
-use Rattle.app_serve.proofs.Unfiled.{unfiled}
+use Rattle.app_serve.proofs.Unfiled.{unfiled, unfiled_fault, unkept}
 use Rattle.app_host.specs.Faults.{judgement_ending}
 use Rattle.app_host.specs.FileSources.{ReadLeaves}
 use Rattle.app_serve.specs.declared.service_notices.ServiceNotices.{ServiceNotices}
@@ -50,3 +50,18 @@ returns-in_err-write_port_file-clause-written g c fail_on =
     (text_view service.port_file) (g.O.Write.contents c.args.output.now)
     c.from_residual-in_err-write_port_file.result c.in_err-write_port_file.field-0.0 (search rules) (search rules)
     (document_view c.args.spec.now, c.requires.document)
+
+pub returns-in_err-kept-clause-written : goal.returns-in_err-kept-clause-written
+returns-in_err-kept-clause-written g c fail_on =
+    let service = c.args.host.now.service.now in
+    unkept fail_on (inquiry_view c.args.inquiry) (g.N.Network.may_give c.args.host.now.network.now
+    (place_view service.place)) (ServiceMayFail service.wait g.N.Network.never_fails) (text_view service.keep)
+    (text_view service.port_file) (g.O.Write.contents c.args.output.now)
+    c.from_residual-in_err-kept.result c.in_err-kept.field-0.0 (search rules) (search rules)
+    (document_view c.args.spec.now, c.requires.document)
+
+pub returns-in_err-write_port_file-clause-err : goal.returns-in_err-write_port_file-clause-err
+returns-in_err-write_port_file-clause-err g c =
+    let service = c.args.host.now.service.now in
+    unfiled_fault (text_view service.keep) (text_view service.port_file) c.from_residual-in_err-write_port_file.result
+    c.in_err-write_port_file.field-0.0 (search rules) (search rules)
