@@ -4,8 +4,9 @@
 module is made once.
 fuzz_afl.py run FOLDER [--seconds N] [--target NAME]: gives each target so many seconds of AFL++ (60 if not given), and
 the inputs that AFL++ has kept, at most 200 of a target, to the other two programs, if they are built.
-fuzz_afl.py gate: builds the program for AFL++ alone, in a folder that is removed, and gives the targets a minute in
-all.
+fuzz_afl.py gate: builds the programs in a folder that is removed, gives the targets a minute of AFL++ in all, and the
+other two programs a minute each at most of the inputs that it kept, the last ones first. Without clang-14 only the
+program for AFL++ is built.
 
 Nothing of these is proved; they are built as by bench/unproved.py. The targets: `bundle`, a bundle on the standard
 input; `check`, a report; `explore` and `draw`, a stream; `notes`, a file of notes for an explanation; and `infer`, a
@@ -24,6 +25,7 @@ import shutil
 import subprocess
 import sys
 import tempfile
+import time
 
 import fuzz_inputs
 import unproved
@@ -49,7 +51,8 @@ TARGETS = {"bundle": [], "check": ["check", DOCUMENT, "@@", LEFT, RIGHT], "explo
            "draw": ["draw", DOCUMENT, LEFT, "@@"],
            "notes": ["judge", "--explain", "--notes", "@@", DOCUMENT, LEFT, RIGHT], "infer": ["infer", LEFT, "@@"]}
 SEEDS = 60
-# In the gate each target has fewer seeds, which AFL++ runs several times each before it begins, and so many seconds.
+# In the gate each target has fewer seeds, which AFL++ runs several times each before it begins, and so many seconds of
+# each program.
 GATE_SEEDS, GATE_SECONDS = 12, 10
 FOUND = "fuzz-found"
 # So many of the inputs that were kept are given to the other programs, which may take so many seconds for each.
@@ -156,28 +159,42 @@ def is_silent(folder, variant, target, path):
     return ends(folder, variant, target, path, more) in range(5)
 
 
-def run(folder, seconds, targets, seeds=SEEDS):
+def sanitize(folder, variant, target, queue, seconds):
+    """How many of these inputs a sanitizer's program was given, the last one first, within so many seconds if they are
+    limited, and those at which it said something."""
+    last = time.monotonic() + seconds if seconds else None
+    count, wrong = 0, []
+    for path in reversed(queue[-KEPT:]):
+        if last and time.monotonic() > last:
+            break
+        count += 1
+        if not is_silent(folder, variant, target, path):
+            wrong.append(f"{path} ({variant})")
+    return count, wrong
+
+
+def run(folder, seconds, targets, seeds=SEEDS, limit=None):
     write_seeds(folder, seeds)
-    bad, count = 0, 0
+    bad, count, sanitized = 0, 0, 0
     for target in targets:
         runs, queue, wrong = fuzz(folder, target, seconds)
         for variant in ("address", "thread"):
             if os.path.exists(os.path.join(folder, f"monitor-{variant}")):
-                wrong += [f"{path} ({variant})" for path in queue[-KEPT:]
-                          if not is_silent(folder, variant, target, path)]
+                tried, found = sanitize(folder, variant, target, queue, limit)
+                sanitized, wrong = sanitized + tried, wrong + found
         bad, count = bad + len(wrong), count + int(runs)
         print("".join(f"{target}: {one}\n" for one in wrong), end="")
         print(f"{target}: {runs} runs, {len(queue)} inputs kept, {len(wrong)} wrong")
-    print(f"{len(targets)} targets, {count} runs, {bad} wrong")
+    print(f"{len(targets)} targets, {count} runs, {sanitized} more with a sanitizer, {bad} wrong")
     return 1 if bad else 0
 
 
 def gate():
-    """Builds the program for AFL++ alone, and gives each target some seconds. What is wrong is kept."""
+    """Builds the programs, and gives each target some seconds of each. What is wrong is kept."""
     folder = tempfile.mkdtemp(prefix="monitor-afl-")
     try:
-        build(folder, ["afl"])
-        status = run(folder, GATE_SECONDS, list(TARGETS), GATE_SEEDS)
+        build(folder, list(VARIANTS) if shutil.which("clang-14") else ["afl"])
+        status = run(folder, GATE_SECONDS, list(TARGETS), GATE_SEEDS, GATE_SECONDS)
         if status:
             shutil.copytree(folder, FOUND, ignore=shutil.ignore_patterns("queue", "monitor-*"), dirs_exist_ok=True)
     finally:
