@@ -17,13 +17,14 @@ It must end as a run that is refused nothing; or, for an allocation, with status
 `monitor: memory` on standard error; for a read, with status 3 and `monitor: read`, or with what is made of a stream
 that can't be read, or with a page that lacks the lines of a file; for a write, a folder or a renamed file, with status
 3, a prefix of the output and `monitor: write`; for a connection with status 3 and `monitor: network`, and so for each
-of these if a connection has to join first, since another is waited for then; and for a file or an interruption, which
-may be of any of these, in one of these ways. What is sent to a watcher changes nothing. A server's watcher must be
-shown what one is shown then, or a prefix of it, but where a stream may fail, which it may see; and each file that is
-kept must be a prefix of what was to be kept, of which a server may say `monitor: write` too if an allocation is
-refused. One that has not ended after a minute is wrong, and is killed. The first allocations are the C library's own,
-and so are those with which it starts threads: a thread that can't be started is no failure. The last line says how many
-runs there were and how many ended otherwise; the status is 1 if any did. It needs gcc.
+of these if a connection has to join first, since another is waited for then; and for a file in one of these ways. A
+call that is interrupted is made again, so such a run ends as if nothing were refused. What is sent to a watcher changes
+nothing. A server's watcher must be shown what one is shown then, or a prefix of it, but where a stream may fail, which
+it may see; and each file that is kept must be a prefix of what was to be kept, of which a server may say `monitor:
+write` too if an allocation is refused. One that has not ended after a minute is wrong, and is killed. The first
+allocations are the C library's own, and so are those with which it starts threads: a thread that can't be started is no
+failure. The last line says how many runs there were and how many ended otherwise; the status is 1 if any did. It needs
+gcc.
 
 Each server listens on an address of its own, so it makes no difference which ports other programs use meanwhile."""
 import concurrent.futures
@@ -72,7 +73,7 @@ SESSIONS = {
 }
 KINDS = ("allocation", "read", "write", "send", "open", "accept", "mkdir", "rename", "interruption")
 # Those after which a stream, or what stands in a file, may be unread; and those after which something may be unwritten.
-READS, WRITES = ("read", "open", "interruption"), ("write", "open", "mkdir", "rename", "interruption")
+READS, WRITES = ("read", "open"), ("write", "open", "mkdir", "rename")
 # What is made of a stream that can't be read: the report, what a check finds, what a watcher is shown, and what stands
 # against a picture.
 UNREAD = re.compile(rb"refused stream \d+ line \d+ read\n|refused bad\n|")

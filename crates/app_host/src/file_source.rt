@@ -1,4 +1,5 @@
 //! Where files are read, and those of a session that is kept are written; and what hears how far a judgement has come.
+use super::retried::{Retried, interrupted, is_interrupted};
 use pd_engine::{ByteSource, Reached};
 use std::alloc::Global;
 use std::io::{ErrorKind, Read, Write};
@@ -111,40 +112,57 @@ fn has_files<D: Read>(folder: &mut D) -> io::Result<bool> {
     Ok(true)
 }
 
+/// Makes the folder of this name.
+fn make_one<R: Files>(files: &R, name: &str) -> io::Result<()> {
+    for _turn in 0..u64::MAX {
+        let outcome = fs::create_dir(files, name);
+        if !is_interrupted(&outcome) {
+            return outcome;
+        }
+    }
+    Err(interrupted())
+}
+
 impl<R: Files + Sync> FileSource for R
 where
     R::File: Send,
 {
     ghost use Rattle.app_host.specs.FileSources.{unknown_file};
 
-    type File = R::File;
+    type File = Retried<R::File>;
 
-    type Sink = R::File;
+    type Sink = Retried<R::File>;
 
     ghost file_of = { λ _ _. unknown_file };
 
-    fn open(&self, name: &str) -> io::Result<R::File> {
-        fs::open(self, system_name(name))
+    fn open(&self, name: &str) -> io::Result<Retried<R::File>> {
+        Ok(Retried::new(fs::open(self, system_name(name))?))
     }
 
-    fn create(&self, name: &str) -> io::Result<R::File> {
-        fs::File::create_new(self, name)
+    fn create(&self, name: &str) -> io::Result<Retried<R::File>> {
+        Ok(Retried::new(fs::File::create_new(self, name)?))
     }
 
     fn make_folder(&self, alloc: Global, name: &str) -> io::Result<()> {
-        match fs::create_dir(self, name) {
+        match make_one(self, name) {
             Err(error) if error.kind() == ErrorKind::AlreadyExists => {}
             made => return made,
         }
         let path = format!(in alloc; "{name}/")?;
-        if has_files(&mut self.open_dir(&path)?)? {
+        if has_files(&mut Retried::new(self.open_dir(&path)?))? {
             return Err(io::Error::from(ErrorKind::DirectoryNotEmpty));
         }
         Ok(())
     }
 
     fn rename(&self, name: &str, other: &str) -> io::Result<()> {
-        fs::rename(self, name, other)
+        for _turn in 0..u64::MAX {
+            let outcome = fs::rename(self, name, other);
+            if !is_interrupted(&outcome) {
+                return outcome;
+            }
+        }
+        Err(interrupted())
     }
 
     fn remove(&self, name: &str) -> io::Result<()> {

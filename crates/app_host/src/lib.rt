@@ -11,6 +11,7 @@
 //! - `waiting`: a connection that hasn't said it yet
 //! - `room`: all of these
 //! - `stranger`: one that was closed before it had
+//! - `retried`: makes calls again that a signal interrupts
 //! - `addresses`: the addresses to which ports belong
 //! - `place_listener`: what listens for connections of the system
 //! - `place_connection`: a connection of the system
@@ -44,6 +45,7 @@ mod notes;
 mod place_connection;
 mod place_listener;
 mod private_files;
+mod retried;
 mod room;
 mod session_files;
 mod status;
@@ -64,6 +66,7 @@ pub use network::{Arrival, Network};
 pub use note::Note;
 pub use noted_source::NotedSource;
 pub use notes::Notes;
+pub use retried::Retried;
 pub use room::Room;
 pub use session_files::{open_noted, read_document, read_session};
 pub use status::{

@@ -1,4 +1,5 @@
 //! A connection of the system.
+use super::retried::Retried;
 use std::alloc::{AllocError, Global};
 use std::io;
 use std::io::{ErrorKind, Read, Write};
@@ -21,7 +22,7 @@ pub enum Link<S> {
 /// One end of a connection that was made to a port, or to a socket. Bytes may be taken in before they are read.
 #[derive(Drop)]
 pub struct PlaceConnection<S> {
-    link: Link<S>,
+    link: Retried<Link<S>>,
     /// The bytes that were taken in, if any were.
     taken: Option<Vec<u8>>,
     /// How many of these were read.
@@ -32,7 +33,7 @@ impl<S> PlaceConnection<S> {
     /// The connection of this link, of which nothing was taken in.
     pub(crate) fn new(link: Link<S>) -> PlaceConnection<S> {
         PlaceConnection {
-            link,
+            link: Retried::new(link),
             taken: None,
             read: 0,
         }
@@ -40,7 +41,7 @@ impl<S> PlaceConnection<S> {
 
     /// What connects it with its peer.
     pub(crate) fn link(&self) -> &Link<S> {
-        &self.link
+        self.link.inner()
     }
 
     /// The bytes that were taken in and not read yet.
@@ -73,7 +74,7 @@ impl<S: OpenStream> PlaceConnection<S> {
     /// # Errors
     /// If that can't be had.
     pub(crate) fn set_nonblocking(&self, is_nonblocking: bool) -> io::Result<()> {
-        match &self.link {
+        match self.link() {
             Link::Port(stream) => stream.set_nonblocking(is_nonblocking),
             Link::Socket(stream) => stream.set_nonblocking(is_nonblocking),
         }
@@ -84,7 +85,7 @@ impl<S: OpenStream> PlaceConnection<S> {
     /// # Errors
     /// If that can't be had.
     pub(crate) fn limit_silence(&self, silence: Duration) -> io::Result<()> {
-        match &self.link {
+        match self.link() {
             Link::Port(stream) => stream.set_read_timeout(Some(silence)),
             Link::Socket(stream) => stream.set_read_timeout(Some(silence)),
         }
@@ -101,7 +102,7 @@ impl<S: OpenStream> PlaceConnection<S> {
         if self.set_nonblocking(true).is_err() {
             return 0;
         }
-        match &self.link {
+        match self.link() {
             Link::Port(stream) => stream.peek(piece).unwrap_or(0),
             Link::Socket(stream) => {
                 let mut reader = stream;
@@ -125,10 +126,7 @@ impl<S: Read> PlaceConnection<S> {
                 self.keep(alloc, piece.get(..count).unwrap_or(&[]))?;
                 Ok(true)
             }
-            Err(error) => Ok(matches!(
-                error.kind(),
-                ErrorKind::WouldBlock | ErrorKind::Interrupted
-            )),
+            Err(error) => Ok(error.kind() == ErrorKind::WouldBlock),
         }
     }
 }
@@ -138,6 +136,22 @@ impl<S: Read> Read for Link<S> {
         match self {
             Link::Port(stream) => stream.read(piece),
             Link::Socket(stream) => stream.read(piece),
+        }
+    }
+}
+
+impl<S: Write> Write for Link<S> {
+    fn write(&mut self, bytes: &[u8]) -> io::Result<usize> {
+        match self {
+            Link::Port(stream) => stream.write(bytes),
+            Link::Socket(stream) => stream.write(bytes),
+        }
+    }
+
+    fn flush(&mut self) -> io::Result<()> {
+        match self {
+            Link::Port(stream) => stream.flush(),
+            Link::Socket(stream) => stream.flush(),
         }
     }
 }
@@ -160,16 +174,10 @@ impl<S: Read> Read for PlaceConnection<S> {
 
 impl<S: Write> Write for PlaceConnection<S> {
     fn write(&mut self, bytes: &[u8]) -> io::Result<usize> {
-        match &mut self.link {
-            Link::Port(stream) => stream.write(bytes),
-            Link::Socket(stream) => stream.write(bytes),
-        }
+        self.link.write(bytes)
     }
 
     fn flush(&mut self) -> io::Result<()> {
-        match &mut self.link {
-            Link::Port(stream) => stream.flush(),
-            Link::Socket(stream) => stream.flush(),
-        }
+        self.link.flush()
     }
 }

@@ -2,6 +2,7 @@
 //! which runs it.
 #![tactic(auto)]
 
+use app_host::Retried;
 use app_progress::{Cleared, Limited, Screen, ShownFile, ShownFiles, TimedRun};
 use std::env::{Env, FillError};
 use std::io::{IsTerminal, Write};
@@ -154,10 +155,10 @@ fn main(rt: HostRuntime) -> ExitCode {
             &rt,
             rt.alloc(),
             arguments,
-            ShownFile::new(rt.stdin(), 0, &screen),
+            ShownFile::new(Retried::new(rt.stdin()), 0, &screen),
             explain,
-            &mut Cleared::new(rt.stdout(), &screen, limited.is_test),
-            &mut Cleared::new(rt.stderr(), &screen, false),
+            &mut Cleared::new(Retried::new(rt.stdout()), &screen, limited.is_test),
+            &mut Cleared::new(Retried::new(rt.stderr()), &screen, false),
         );
         theirs.end(&rt);
         status
