@@ -1,4 +1,5 @@
 pub mod FileSources
 pub mod Faults
 pub mod Formats
+pub mod Joins
 pub mod Addresses

@@ -15,7 +15,7 @@ pub struct Door<'a> {
 }
 
 /// The place of the line feed that ends the first line of these bytes, if it is there.
-fn line_end(bytes: &[u8]) -> Option<usize> {
+pub(crate) fn line_end(bytes: &[u8]) -> Option<usize> {
     for (place, byte) in bytes.iter().enumerate() {
         if *byte == b'\n' {
             return Some(place);

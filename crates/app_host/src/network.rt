@@ -1,5 +1,7 @@
 //! Where connections come from.
-ghost use Rattle.std.specs.Prelude.{◌≡◌, IfOk, IfSome, IsSome, None, false};
+ghost use Rattle.app_host.specs.Joins.{joined_by, taken_view};
+ghost use Rattle.pd_spec.specs.Views.{document_view};
+ghost use Rattle.std.specs.Prelude.{◌≡◌, ℕ, IfOk, IfSome, IsSome, None, Some, false};
 
 use super::addresses::port_of_address;
 use super::door::read_token;
@@ -225,7 +227,10 @@ fn next_out<S: OpenStream + Read + Drop>(
     room: &mut Room<'_, PlaceConnection<S>>,
     now: Instant,
 ) -> io::Result<Option<Arrival<PlaceConnection<S>>>>
-    ensures { IfOk result (λ out. IfSome out (λ arrival. IfOk arrival IsSome)) }
+    ensures some { IfOk result (λ out. IfSome out (λ arrival. IfOk arrival IsSome)) }
+    ensures joined { IfOk result (λ out. IfSome out (λ arrival. IfOk arrival (λ found. IfSome found (λ connection.
+        (process : ℕ) × (joined_by (document_view room.old.door.spec.now).names (taken_view connection)
+        ≡ Some process))))) }
 {
     let alloc = room.alloc();
     let Some((connection, reason)) = room.next_out(now)? else {

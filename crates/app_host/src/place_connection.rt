@@ -1,4 +1,7 @@
 //! A connection of the system.
+ghost use Rattle.app_host.specs.Joins.{taken_view};
+ghost use Rattle.std.specs.Prelude.{◌≡◌, drop, take};
+
 use super::retried::Retried;
 use std::alloc::{AllocError, Global};
 use std::io;
@@ -29,6 +32,17 @@ pub struct PlaceConnection<S> {
     read: usize,
 }
 
+/// The bytes after this many.
+fn bytes_after(bytes: &[u8], count: usize) -> &[u8]
+    ensures { result.now ≡ drop count bytes.now }
+{
+    if count <= bytes.len() {
+        &bytes[count..]
+    } else {
+        &[]
+    }
+}
+
 impl<S> PlaceConnection<S> {
     /// The connection of this link, of which nothing was taken in.
     pub(crate) fn new(link: Link<S>) -> PlaceConnection<S> {
@@ -45,9 +59,11 @@ impl<S> PlaceConnection<S> {
     }
 
     /// The bytes that were taken in and not read yet.
-    pub(crate) fn taken(&self) -> &[u8] {
+    pub(crate) fn taken(&self) -> &[u8]
+        ensures { result.now ≡ taken_view self.now }
+    {
         match &self.taken {
-            Some(taken) => taken.get(self.read..).unwrap_or(&[]),
+            Some(taken) => bytes_after(taken, self.read),
             None => &[],
         }
     }

@@ -1,4 +1,8 @@
 //! The connections that haven't joined a process yet.
+ghost use Rattle.app_host.specs.Joins.{joined_by, taken_view};
+ghost use Rattle.pd_spec.specs.Views.{document_view};
+ghost use Rattle.std.specs.Prelude.{◌≡◌, ℕ, IfOk, IfSome, None, Some};
+
 use super::door::Door;
 use super::place_connection::PlaceConnection;
 use super::stranger::StrangerReason;
@@ -20,7 +24,7 @@ pub(crate) const PATIENCE: u64 = 5;
 pub struct Room<'a, C> {
     alloc: Global,
     door: Door<'a>,
-    waiting: Vec<Waiting<'a, C>>,
+    waiting: Vec<Waiting<C>>,
     /// Whether each process has been joined.
     joined: [bool; PROCESS_LIMIT],
 }
@@ -67,7 +71,7 @@ impl<'a, C: Drop> Room<'a, C> {
     /// # Errors
     /// Out of memory; the connection is closed.
     pub(crate) fn enter(&mut self, connection: C, end: Instant) -> Result<(), AllocError> {
-        let waiting = Waiting::new(self.alloc, connection, &self.door, end);
+        let waiting = Waiting::new(connection, self.door.token.is_none(), end);
         self.waiting.push(waiting)?;
         Ok(())
     }
@@ -90,20 +94,35 @@ impl<'a, S: Read + Drop> Room<'a, PlaceConnection<S>> {
     pub(crate) fn next_out(
         &mut self,
         now: Instant,
-    ) -> Result<Option<(PlaceConnection<S>, Option<StrangerReason>)>, AllocError> {
+    ) -> Result<Option<(PlaceConnection<S>, Option<StrangerReason>)>, AllocError>
+        ensures joined { IfOk result (λ out. IfSome out (λ found. found.1 ≡ None → (process : ℕ)
+            × (joined_by (document_view self.old.door.spec.now).names (taken_view found.0) ≡ Some process))) }
+    {
+        let (alloc, spec) = (self.alloc, self.door.spec);
         for place in 0..self.waiting.len() {
-            let look = match self.waiting.get_mut(place) {
-                Some(waiting) => waiting.look(self.alloc, &self.door, now)?,
-                None => Look::Waits,
-            };
-            let reason = match look {
-                Look::Waits => continue,
-                Look::Joins(process) if self.join(process) => None,
-                Look::Joins(_) => Some(StrangerReason::Taken),
-                Look::Leaves(reason) => Some(reason),
-            };
-            return Ok(self.take(place).map(|connection| (connection, reason)));
+            if place >= self.waiting.len() {
+                return Ok(None);
+            }
+            let mut waiting = self.waiting.remove(place);
+            let token = self.door.token.as_deref();
+            match waiting.look(alloc, spec, token, now)? {
+                Look::Waits => self.waiting.insert(place, waiting)?,
+                Look::Joins(process) => {
+                    let is_first = self.join(process);
+                    return Ok(Some((waiting.connection, taken_reason(is_first))));
+                }
+                Look::Leaves(reason) => return Ok(Some((waiting.connection, Some(reason)))),
+            }
         }
         Ok(None)
+    }
+}
+
+/// Why a connection is closed that joins a process: for no reason, if it is the first one.
+fn taken_reason(is_first: bool) -> Option<StrangerReason> {
+    if is_first {
+        None
+    } else {
+        Some(StrangerReason::Taken)
     }
 }

@@ -1,11 +1,20 @@
 //! A connection that hasn't joined a process yet.
-use super::door::{Door, Said, said_first};
+ghost use Rattle.app_host.specs.Joins.{joined_by, taken_view};
+ghost use Rattle.app_host.specs.declared.waiting.Look.TheVariants as looks;
+ghost use Rattle.pd_spec.specs.Views.{document_view};
+ghost use Rattle.std.specs.Prelude.{◌≡◌, ℕ, IfOk, Some};
+
+use super::door::{Said, line_end, said_first};
 use super::place_connection::PlaceConnection;
 use super::stranger::StrangerReason;
 use pd_events::TraceReader;
+use pd_spec::Spec;
 use std::alloc::{AllocError, Global};
 use std::io::Read;
 use std::time::Instant;
+
+/// The most bytes of a first line that isn't whole: those that a line may have, and one more.
+const START_LIMIT: usize = 65_537;
 
 /// What is known of a connection that is looked at.
 #[derive(Clone, Copy)]
@@ -20,37 +29,43 @@ pub(crate) enum Look {
 
 /// A connection that hasn't joined a process yet.
 #[derive(Drop)]
-pub(crate) struct Waiting<'a, C> {
+pub(crate) struct Waiting<C> {
     pub(crate) connection: C,
-    /// Reads what it says after the token.
-    reader: TraceReader<'a>,
-    /// How many bytes the reader was given.
-    given: usize,
     /// Whether it has said the token, or none is asked for.
     is_let_in: bool,
     /// When it is waited for no longer.
     end: Instant,
 }
 
-impl<'a, C> Waiting<'a, C> {
-    /// A connection that is waited for until then.
-    pub(crate) fn new(
-        alloc: Global,
-        connection: C,
-        door: &Door<'a>,
-        end: Instant,
-    ) -> Waiting<'a, C> {
+impl<C> Waiting<C> {
+    /// A connection that is waited for until then, and has said the token, if that isn't asked for.
+    pub(crate) fn new(connection: C, is_let_in: bool, end: Instant) -> Waiting<C> {
         Waiting {
             connection,
-            reader: TraceReader::new(alloc, door.spec),
-            given: 0,
-            is_let_in: door.token.is_none(),
+            is_let_in,
             end,
         }
     }
 }
 
-impl<'a, S: Read> Waiting<'a, PlaceConnection<S>> {
+/// What a stream has come to that begins so: whether it has joined a process, can't join any more, or neither.
+fn look_at_start(alloc: Global, spec: &Spec, bytes: &[u8]) -> Result<Look, AllocError>
+    ensures { IfOk result (λ look. (process : ℕ) → look ≡ looks.Joins process
+        → joined_by (document_view spec.now).names bytes.now ≡ Some process) }
+{
+    if line_end(bytes).is_none() && bytes.len() < START_LIMIT {
+        return Ok(Look::Waits);
+    }
+    let mut reader = TraceReader::new(alloc, spec);
+    reader.feed(bytes)?;
+    match reader.process() {
+        Some(process) => Ok(Look::Joins(process)),
+        None if reader.is_closed() => Ok(Look::Leaves(StrangerReason::Join)),
+        None => Ok(Look::Waits),
+    }
+}
+
+impl<S: Read> Waiting<PlaceConnection<S>> {
     /// Looks for the token in what was taken in, passes over it, and gives whether something else stands there.
     fn look_for_token(&mut self, token: &[u8]) -> bool {
         match said_first(token, self.connection.taken()) {
@@ -64,21 +79,17 @@ impl<'a, S: Read> Waiting<'a, PlaceConnection<S>> {
         }
     }
 
-    /// Looks for the join in what was taken in.
-    fn look_for_join(&mut self) -> Result<Look, AllocError> {
-        let taken = self.connection.taken();
-        self.reader.feed(taken.get(self.given..).unwrap_or(&[]))?;
-        self.given = taken.len();
-        Ok(match self.reader.process() {
-            Some(process) => Look::Joins(process),
-            None if self.reader.is_closed() => Look::Leaves(StrangerReason::Join),
-            None => Look::Waits,
-        })
-    }
-
-    /// What it has said until now.
-    fn look_at_taken(&mut self, door: &Door<'_>) -> Result<Look, AllocError> {
-        if let (false, Some(token)) = (self.is_let_in, &door.token) {
+    /// What it has said until now, after the token, if there is one.
+    fn look_at_taken(
+        &mut self,
+        alloc: Global,
+        spec: &Spec,
+        token: Option<&[u8]>,
+    ) -> Result<Look, AllocError>
+        ensures { IfOk result (λ look. (process : ℕ) → look ≡ looks.Joins process
+            → joined_by (document_view spec.now).names (taken_view self.new.connection) ≡ Some process) }
+    {
+        if let (false, Some(token)) = (self.is_let_in, token) {
             if self.look_for_token(token) {
                 return Ok(Look::Leaves(StrangerReason::Token));
             }
@@ -86,7 +97,7 @@ impl<'a, S: Read> Waiting<'a, PlaceConnection<S>> {
                 return Ok(Look::Waits);
             }
         }
-        self.look_for_join()
+        look_at_start(alloc, spec, self.connection.taken())
     }
 
     /// Takes in what has come, and looks at it.
@@ -96,15 +107,23 @@ impl<'a, S: Read> Waiting<'a, PlaceConnection<S>> {
     pub(crate) fn look(
         &mut self,
         alloc: Global,
-        door: &Door<'_>,
+        spec: &Spec,
+        token: Option<&[u8]>,
         now: Instant,
-    ) -> Result<Look, AllocError> {
+    ) -> Result<Look, AllocError>
+        ensures { IfOk result (λ look. (process : ℕ) → look ≡ looks.Joins process
+            → joined_by (document_view spec.now).names (taken_view self.new.connection) ≡ Some process) }
+    {
         let goes_on = self.connection.take_in(alloc)?;
-        let look = self.look_at_taken(door)?;
-        Ok(match look {
-            Look::Waits if !goes_on => Look::Leaves(StrangerReason::Ended),
-            Look::Waits if now >= self.end => Look::Leaves(StrangerReason::Silent),
-            look => look,
-        })
+        match self.look_at_taken(alloc, spec, token)? {
+            Look::Waits => Ok(if !goes_on {
+                Look::Leaves(StrangerReason::Ended)
+            } else if now >= self.end {
+                Look::Leaves(StrangerReason::Silent)
+            } else {
+                Look::Waits
+            }),
+            look => Ok(look),
+        }
     }
 }
