@@ -2,3 +2,4 @@
 pub mod Truths
 pub mod Keys
 pub mod PairNumbers
+pub mod Written

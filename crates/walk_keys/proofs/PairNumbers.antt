@@ -138,14 +138,14 @@ first_below n f s many below = go (cases_lt f (count_base ^ (n - single_limit)))
 
 -- ---- counts in two halves
 
-key_append : (xs ys : List ℕ) → key_of (xs ++ ys) ≡ key_of xs * count_base ^ length ys + key_of ys
+pub key_append : (xs ys : List ℕ) → key_of (xs ++ ys) ≡ key_of xs * count_base ^ length ys + key_of ys
 key_append [] ys = omega arith
 key_append (x ∷ xs) ys =
     let l : length (xs ++ ys) ≡ length xs + length ys = length-append xs ys in
     let rest : key_of (xs ++ ys) ≡ key_of xs * count_base ^ length ys + key_of ys = key_append xs ys in
     rw (l, pow-add count_base (length xs) (length ys), rest) (grind arith)
 
-digits_append : (xs ys : List ℕ) → AreDigits xs → AreDigits ys → AreDigits (xs ++ ys)
+pub digits_append : (xs ys : List ℕ) → AreDigits xs → AreDigits ys → AreDigits (xs ++ ys)
 digits_append [] ys small also = also
 digits_append (x ∷ xs) ys small also =
     all_cons x (xs ++ ys) (small 0 0 (omega arith)) (digits_append xs ys (all_rest x xs small) also)

@@ -34,6 +34,12 @@ pub trait Key: Copy {
         requires below { number self < count_base ^ n }
         ensures { result ≡ slice_index (digits n (number self)) p };
 
+    /// Writes the counts of all processes at once, one into each place of the row.
+    fn write(self, counts: &mut [u64])
+        requires few { length counts.old ≤ room }
+        requires below { number self < count_base ^ length counts.old }
+        ensures { counts.new ≡ digits (length counts.old) (number self) };
+
     /// One more event of process `p` of `n`, from 0.
     fn one_more(self, n: usize, p: usize) -> Self
         requires few { n ≤ room }

@@ -4,7 +4,7 @@ ghost use Rattle.std.specs.Ordering.{nat_cmp};
 ghost use Rattle.std.specs.Prelude.{◌≡◌, ◌-◌};
 
 use super::Key;
-use super::single::{COUNT_BASE, SINGLE_LIMIT, digit_before, one_before, pack};
+use super::single::{COUNT_BASE, SINGLE_LIMIT, digit_before, one_before, pack, write};
 use std::alloc::AllocError;
 use std::cmp::Ordering;
 
@@ -74,6 +74,13 @@ impl Key for Pair {
         } else {
             digit_before(self.first, places - SINGLE_LIMIT)
         }
+    }
+
+    fn write(self, counts: &mut [u64]) {
+        let middle = in_first(counts.len());
+        let (first, second) = counts.split_at_mut(middle);
+        write(self.first, first);
+        write(self.second, second);
     }
 
     fn one_more(self, n: usize, p: usize) -> Pair {

@@ -56,6 +56,20 @@ fn digit(key: u128, processes: usize, p: usize) -> u64
     digit_before(key, processes - 1 - p)
 }
 
+/// Writes the digits of a number, one into each place of the row.
+pub(crate) fn write(key: u128, counts: &mut [u64])
+    requires few { length counts.old ≤ single_limit }
+    requires below { key < count_base ^ length counts.old }
+    ensures { counts.new ≡ digits (length counts.old) key }
+{
+    let last = counts.len();
+    let mut rest = key;
+    for places in 0..last {
+        counts[last - 1 - places] = (rest % COUNT_BASE) as u64;
+        rest >>= COUNT_BITS;
+    }
+}
+
 /// What one more event of process `p` adds to a number.
 fn weight(processes: usize, p: usize) -> u128
     requires few { processes ≤ single_limit }
@@ -89,6 +103,10 @@ impl Key for u128 {
 
     fn digit(self, n: usize, p: usize) -> u64 {
         digit(self, n, p)
+    }
+
+    fn write(self, counts: &mut [u64]) {
+        write(self, counts);
     }
 
     fn one_more(self, n: usize, p: usize) -> u128 {
