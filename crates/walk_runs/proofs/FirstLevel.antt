@@ -1,5 +1,5 @@
 -- Level 0, which has the run of the empty cut alone.
-use Rattle.std.proofs.Common.{◌≡◌, ℕ, zero, suc, ◌+◌, ◌-◌, ◌<◌, ◌≤◌, List, [], ◌∷◌, length, get_or, sum, Contains, sym, ap, ◌∙◌, subst, inl, inr, ◌⊎◌, arith}
+use Rattle.std.proofs.Common.{◌≡◌, ℕ, zero, suc, ◌+◌, ◌-◌, ◌<◌, ◌≤◌, List, [], ◌∷◌, length, sum, Contains, sym, ap, ◌∙◌, subst, inl, inr, ◌⊎◌, arith}
 use Rattle.std.specs.Prelude.{None}
 use Rattle.def_format.specs.Limits.{event_limit}
 use Rattle.walk_keys.specs.Keys.{digits}
@@ -40,10 +40,8 @@ only_run run (zero, lt, at) = at
 only_run run (suc k, lt, at) = absurd (omega arith)
 
 module _ (c : Computation) (small : (q : ℕ) → event_count c q ≤ event_limit) (walkable : IsWalkable c)
-    (two : 2 ≤ length c) (born sorted : List KeyedBirth)
+    (two : 2 ≤ length c) (born : List KeyedBirth)
     (grown : GrowsBy c (cut_at (digits (length c - 2) 0) 0 0) None (length c - 2) [] born)
-    (there : (z : KeyedBirth) → Contains born z → Contains sorted z)
-    (back : (z : KeyedBirth) → Contains sorted z → Contains born z)
   where
     no_sum : sum (cut_at (digits (length c - 2) 0) 0 0) ≡ 0
     no_sum = ap sum (first_cut c two) ∙ sum_empty c
@@ -69,14 +67,12 @@ module _ (c : Computation) (small : (q : ℕ) → event_count c q ≤ event_limi
         adds.all p cut lt (subst (λ (r : KeyedRun). IsMadeAt c 0 (run_view (length c - 2) r) p cut)
         (sym (only_run run has)) made)
 
-    pub first_level : IsWholeLevel c (whole_view (length c) 0 (first_run ∷ []) sorted)
+    pub first_level : IsWholeLevel c (whole_view (length c) 0 (first_run ∷ []) born)
     first_level =
-        level_with_births c small walkable two 0 (first_run ∷ []) whole born sorted just each there back
+        level_with_births c small walkable two 0 (first_run ∷ []) whole born just each
 
-    pub first_kept : (room : ℕ) → length c ≤ room
-        → ((i j : ℕ) → i ≤ j → j < length (cuts_of sorted) → get_or (cuts_of sorted) i 0 ≤ get_or (cuts_of sorted) j 0)
-        → IsKeptLevel room (length c) 0 (first_run ∷ []) (cuts_of sorted)
-    first_kept room few ascends = record {
+    pub first_kept : (room : ℕ) → length c ≤ room → IsKeptLevel room (length c) 0 (first_run ∷ []) (cuts_of born)
+    first_kept room few = record {
       few = few;
       two = two;
       keys = λ i j lt in_. absurd (omega arith);
@@ -87,6 +83,5 @@ module _ (c : Computation) (small : (q : ℕ) → event_count c q ≤ event_limi
             omega arith;
       };
       some = λ run has. subst (λ (r : KeyedRun). r.lo ≤ r.hi) (only_run run has) (omega arith);
-      sorted = ascends;
-      below = births_below c small walkable two 0 (first_run ∷ []) whole born sorted just each there back;
+      below = births_below c small walkable two 0 (first_run ∷ []) whole born just each;
     }

@@ -17,12 +17,10 @@ use Rattle.walk_runs.proofs.KeyLists.{from_map, in_map}
 use Rattle.walk_runs.proofs.RunFlags.{IsMadeBy, candidates_in_runs, made_by_each}
 
 module _ (c : Computation) (small : (q : ℕ) → event_count c q ≤ event_limit) (well : IsWalkable c) (two : 2 ≤ length c)
-    (k : ℕ) (runs : List KeyedRun) (whole : IsWhole c k (runs_view (length c - 2) runs)) (born sorted : List KeyedBirth)
+    (k : ℕ) (runs : List KeyedRun) (whole : IsWhole c k (runs_view (length c - 2) runs)) (born : List KeyedBirth)
     (just : (z : KeyedBirth) → Contains born z → IsBirth c (k + 1) z)
     (each : (run : KeyedRun) → Contains runs run → (p : ℕ) (cut : List ℕ) → p < length c - 2
     → IsMadeAt c k (run_view (length c - 2) run) p cut → IsFound c born cut p)
-    (there : (z : KeyedBirth) → Contains born z → Contains sorted z)
-    (back : (z : KeyedBirth) → Contains sorted z → Contains born z)
   where
     abbrev MadeBy : List ℕ → ℕ → Type 0
     MadeBy cut p = IsMadeBy c k (runs_view (length c - 2) runs) cut p
@@ -59,37 +57,37 @@ module _ (c : Computation) (small : (q : ℕ) → event_count c q ≤ event_limi
         let w = (candidates_in_runs c well.no_cycle k (runs_view (length c - 2) runs) whole cut).0 candidate in
         last_maker cut candidate (length c - 2) w.2.0 (omega arith) (w.0, w.1, w.2.1, w.2.2)
 
-    all : (cut : List ℕ) → IsCandidate c k cut → Contains (map (digits (length c)) (cuts_of sorted)) cut
+    all : (cut : List ℕ) → IsCandidate c k cut → Contains (map (digits (length c)) (cuts_of born)) cut
     all cut candidate =
         let f : (q : ℕ) × Contains born (birth_of cut q) = found cut candidate in
         let ok : IsConsistent c cut = (candidates_are_cuts c well k cut candidate).0 in
-        subst (λ (other : List ℕ). Contains (map (digits (length c)) (cuts_of sorted)) other) (cut_back c cut small ok)
-        (in_map (digits (length c)) (cuts_of sorted) (key_of cut)
-        (in_map (λ (birth : KeyedBirth). birth.cut) sorted (birth_of cut f.0) (there (birth_of cut f.0) f.1)))
+        subst (λ (other : List ℕ). Contains (map (digits (length c)) (cuts_of born)) other) (cut_back c cut small ok)
+        (in_map (digits (length c)) (cuts_of born) (key_of cut)
+        (in_map (λ (birth : KeyedBirth). birth.cut) born (birth_of cut f.0) f.1))
 
     -- a birth by the number of its cut
-    cut_of : (z : ℕ) → Contains (cuts_of sorted) z → (birth : KeyedBirth) × Contains sorted birth × (birth.cut ≡ z)
-    cut_of z has = from_map (λ (birth : KeyedBirth). birth.cut) sorted z has
+    cut_of : (z : ℕ) → Contains (cuts_of born) z → (birth : KeyedBirth) × Contains born birth × (birth.cut ≡ z)
+    cut_of z has = from_map (λ (birth : KeyedBirth). birth.cut) born z has
 
     same_cut : (birth : KeyedBirth) (cut : List ℕ) → IsConsistent c cut → birth.cut ≡ key_of cut
         → digits (length c) birth.cut ≡ cut
     same_cut birth cut ok is = ap (digits (length c)) is ∙ cut_back c cut small ok
 
-    cuts : (cut : List ℕ) → Contains (map (digits (length c)) (cuts_of sorted)) cut → IsOfLevel c (k + 1) cut
+    cuts : (cut : List ℕ) → Contains (map (digits (length c)) (cuts_of born)) cut → IsOfLevel c (k + 1) cut
     cuts cut has =
-        let v : (z : ℕ) × Contains (cuts_of sorted) z × (digits (length c) z ≡ cut) =
-        from_map (digits (length c)) (cuts_of sorted) cut has in
-        let b : (birth : KeyedBirth) × Contains sorted birth × (birth.cut ≡ v.0) = cut_of v.0 v.1 in
-        let w : IsBirth c (k + 1) b.0 = just b.0 (back b.0 b.1) in
+        let v : (z : ℕ) × Contains (cuts_of born) z × (digits (length c) z ≡ cut) =
+        from_map (digits (length c)) (cuts_of born) cut has in
+        let b : (birth : KeyedBirth) × Contains born birth × (birth.cut ≡ v.0) = cut_of v.0 v.1 in
+        let w : IsBirth c (k + 1) b.0 = just b.0 b.1 in
         let same : digits (length c) b.0.cut ≡ cut = ap (digits (length c)) b.2 ∙ v.2 in
         subst (IsOfLevel c (k + 1)) (sym (same_cut b.0 w.0 w.1.0 w.2) ∙ same) w.1
 
-    undoable : (birth : KeyedBirth) → Contains sorted birth → IsUndoable c (digits (length c) birth.cut) birth.by
+    undoable : (birth : KeyedBirth) → Contains born birth → IsUndoable c (digits (length c) birth.cut) birth.by
     undoable birth has =
-        let w : IsBirth c (k + 1) birth = just birth (back birth has) in
+        let w : IsBirth c (k + 1) birth = just birth has in
         subst (λ (cut : List ℕ). IsUndoable c cut birth.by) (sym (same_cut birth w.0 w.1.0 w.2)) w.3
 
-    pub level_with_births : IsWholeLevel c (whole_view (length c) k runs sorted)
+    pub level_with_births : IsWholeLevel c (whole_view (length c) k runs born)
     level_with_births = record {
       processes = refl;
       two = two;
@@ -99,8 +97,8 @@ module _ (c : Computation) (small : (q : ℕ) → event_count c q ≤ event_limi
       undoable = undoable;
     }
 
-    pub births_below : (z : ℕ) → Contains (cuts_of sorted) z → z < count_base ^ length c
+    pub births_below : (z : ℕ) → Contains (cuts_of born) z → z < count_base ^ length c
     births_below z has =
-        let b : (birth : KeyedBirth) × Contains sorted birth × (birth.cut ≡ z) = cut_of z has in
-        let w : IsBirth c (k + 1) b.0 = just b.0 (back b.0 b.1) in
+        let b : (birth : KeyedBirth) × Contains born birth × (birth.cut ≡ z) = cut_of z has in
+        let w : IsBirth c (k + 1) b.0 = just b.0 b.1 in
         subst (λ (x : ℕ). x < count_base ^ length c) (sym w.2 ∙ b.2) (cut_below c w.0 small w.1.0)

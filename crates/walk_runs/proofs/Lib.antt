@@ -26,5 +26,6 @@ pub mod Pushing
 pub mod KeyLists
 pub mod LastMakers
 pub mod Merging
+pub mod SortedLevels
 pub mod FirstLevel
 pub mod Collecting

@@ -12,7 +12,7 @@ use Rattle.walk_keys.specs.Neighbors.{cut_at}
 use Rattle.walk_runs.specs.Births.{IsWalkable, IsAlive, IsYoung, IsCandidate}
 use Rattle.walk_runs.specs.WholeLevels.{Run, HasRun, IsRunOf, IsWhole, IsMovedTo, IsBornBeside, IsNextRuns, IsMadeAt}
 use Rattle.walk_runs.specs.KeptRuns.{run_view, level_of, IsBirth, IsKept, AddsBirths, IsPushed, IsBornRun, gone, moved}
-use Rattle.walk_runs.specs.Levels.{IsKeptLevel, IsWholeLevel, whole_view, runs_view, keys_of, prefix_key}
+use Rattle.walk_runs.specs.Levels.{AreInOrder, IsKeptLevel, IsWholeLevel, whole_view, runs_view, keys_of, prefix_key}
 use Rattle.walk_runs.specs.Kept.{KeyedBirth, KeyedRun, cuts_of}
 use Rattle.walk_runs.specs.Points.{IsFound}
 use Rattle.walk_runs.proofs.Ascending.{nothing_in_empty}
@@ -31,17 +31,20 @@ pub record IsGiven (room : ℕ) (c : Computation) (k : ℕ) (olds : List KeyedRu
   pub small : (q : ℕ) → event_count c q ≤ event_limit
   pub walkable : IsWalkable c
   pub kept : IsKeptLevel room (length c) k olds births
+  pub sorted : AreInOrder births
   pub whole : IsWhole c k (runs_view (length c - 2) olds)
   pub born : (cut : List ℕ) → Contains (map (digits (length c)) births) cut → IsOfLevel c (k + 1) cut
   pub all : (cut : List ℕ) → IsCandidate c k cut → Contains (map (digits (length c)) births) cut
 
 pub given_by : (room : ℕ) (c : Computation) (k : ℕ) (olds : List KeyedRun) (births : List KeyedBirth)
     → ((q : ℕ) → event_count c q ≤ event_limit) → IsWalkable c → IsKeptLevel room (length c) k olds (cuts_of births)
-    → IsWholeLevel c (whole_view (length c) k olds births) → IsGiven room c k olds (cuts_of births)
-given_by room c k olds births small walkable kept level = record {
+    → AreInOrder (cuts_of births) → IsWholeLevel c (whole_view (length c) k olds births)
+    → IsGiven room c k olds (cuts_of births)
+given_by room c k olds births small walkable kept sorted level = record {
   small = small;
   walkable = walkable;
   kept = kept;
+  sorted = sorted;
   whole = level.whole;
   born = level.born;
   all = level.all;
@@ -236,7 +239,7 @@ module _ (room : ℕ) (c : Computation) (k : ℕ) (olds : List KeyedRun) (births
   later_prefix : (j : ℕ) → j + 1 < length births
       → prefix_key (get_or births j 0) ≤ prefix_key (get_or births (j + 1) 0)
   later_prefix j lt =
-      let le : get_or births j 0 ≤ get_or births (j + 1) 0 = given.kept.sorted j (j + 1) (omega arith) lt in
+      let le : get_or births j 0 ≤ get_or births (j + 1) 0 = given.sorted j (j + 1) (omega arith) lt in
       omega arith
 
   birth_here : (j : ℕ) → j < length births → Contains births (get_or births j 0)
@@ -616,24 +619,18 @@ module _ (room : ℕ) (c : Computation) (k : ℕ) (olds : List KeyedRun) (births
     some_cut run has =
         (whole_next.each (run_view (length c - 2) run) (in_map (run_view (length c - 2)) runs run has)).some
 
-    module _ (sorted : List KeyedBirth) (there : (z : KeyedBirth) → Contains born z → Contains sorted z)
-        (back : (z : KeyedBirth) → Contains sorted z → Contains born z) where
-      pub ended_level : IsWholeLevel c (whole_view (length c) (k + 1) runs sorted)
-      ended_level =
-          level_with_births c given.small given.walkable given.kept.two (k + 1) runs whole_next born sorted g.made.just
-          g.made.all there back
+    pub ended_level : IsWholeLevel c (whole_view (length c) (k + 1) runs born)
+    ended_level =
+        level_with_births c given.small given.walkable given.kept.two (k + 1) runs whole_next born g.made.just
+        g.made.all
 
-      pub ended_kept : ((i j : ℕ) → i ≤ j → j < length (cuts_of sorted)
-          → get_or (cuts_of sorted) i 0 ≤ get_or (cuts_of sorted) j 0)
-          → IsKeptLevel room (length c) (k + 1) runs (cuts_of sorted)
-      ended_kept ascends = record {
-        few = given.kept.few;
-        two = given.kept.two;
-        keys = g.made.keys;
-        kept = g.made.kept;
-        some = some_cut;
-        sorted = ascends;
-        below =
-            births_below c given.small given.walkable given.kept.two (k + 1) runs whole_next born sorted g.made.just
-            g.made.all there back;
-      }
+    pub ended_kept : IsKeptLevel room (length c) (k + 1) runs (cuts_of born)
+    ended_kept = record {
+      few = given.kept.few;
+      two = given.kept.two;
+      keys = g.made.keys;
+      kept = g.made.kept;
+      some = some_cut;
+      below =
+          births_below c given.small given.walkable given.kept.two (k + 1) runs whole_next born g.made.just g.made.all;
+    }

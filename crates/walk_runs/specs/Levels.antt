@@ -53,12 +53,15 @@ prefix_key cut = cut / count_base / count_base
 abbrev pub cut_count : List Run → ℕ
 cut_count runs = min (count_of_runs runs) 18446744073709551615
 
--- how a level is kept: ascending keys, and ascending births, of two processes or more, all of which a key has room for
+-- births in the order of their cuts
+abbrev pub AreInOrder : List ℕ → Type 0
+AreInOrder born = (i j : ℕ) → i ≤ j → j < length born → slice_index born i ≤ slice_index born j
+
+-- how a level is kept: ascending keys, and its births, of two processes or more, all of which a key has room for
 pub record IsKeptLevel (room processes number : ℕ) (runs : List KeyedRun) (born : List ℕ) : Type 0 where
   pub few : processes ≤ room
   pub two : 2 ≤ processes
   pub keys : Ascending (keys_of runs)
   pub kept : (run : KeyedRun) → Contains runs run → IsKept (processes - 2) number run
   pub some : (run : KeyedRun) → Contains runs run → run.lo ≤ run.hi
-  pub sorted : (i j : ℕ) → i ≤ j → j < length born → slice_index born i ≤ slice_index born j
   pub below : (cut : ℕ) → Contains born cut → cut < count_base ^ processes

@@ -138,15 +138,15 @@ impl<K: Key> Births<K> {
     ///
     /// # Errors
     /// An allocation was refused.
-    pub(crate) fn sorted(self) -> Result<Vec<KeptBirth<K>>, AllocError>
-        ensures { IfOk result (λ all. IsSortedOf self (births_view K.number all.items)) }
+    pub(crate) fn sorted(&self) -> Result<Vec<KeptBirth<K>>, AllocError>
+        ensures { IfOk result (λ all. IsSortedOf self.now (births_view K.number all.items)) }
     {
-        let mut count: usize = 0;
+        let mut count = self.few.len();
         for k in 0..self.lists.len() {
             count = count.saturating_add(self.lists[k].len());
         }
-        let mut all = self.few;
-        all.reserve(count)?;
+        let mut all = Vec::with_capacity(self.alloc, count)?;
+        all.extend_from_slice(&self.few)?;
         for i in 0..self.lists.len() {
             all.extend_from_slice(&self.lists[i])?;
         }

@@ -3,7 +3,7 @@ ghost use Rattle.def_format.specs.Limits.{process_limit};
 ghost use Rattle.walk_keys.specs.Keys.{AreDigits, key_of};
 ghost use Rattle.walk_keys.specs.Neighbors.{cut_at};
 ghost use Rattle.walk_runs.specs.Kept.{KeyedRun, births_view, cuts_of};
-ghost use Rattle.walk_runs.specs.Levels.{IsKeptLevel, IsWholeLevel, cut_count, keys_of, runs_view, whole_view};
+ghost use Rattle.walk_runs.specs.Levels.{AreInOrder, IsKeptLevel, IsWholeLevel, cut_count, keys_of, runs_view, whole_view};
 ghost use Rattle.walk_runs.specs.WholeLevels.{Run, rest_at};
 ghost use Rattle.std.specs.Prelude.{◌≡◌, ◌+◌, ◌<◌, ◌≤◌, ◌==◌, ◌↔◌, ℕ, Contains, IfOk, IfSome, IsTrue, length, slice_get, slice_index};
 
@@ -18,27 +18,28 @@ use std::alloc::{AllocError, Global};
 use std::marker::Model;
 use walk_keys::Key;
 
-/// A whole level: its number, its cuts as runs, and the cuts with which the prefixes of the next level are born.
+/// A whole level: its number, its cuts as runs, and the cuts with which the prefixes of the next level are born. These
+/// are sorted when the next level is made: the last level has most of them, and nothing is made of it.
 #[derive(Drop)]
 pub struct Whole<K: Key> {
     processes: usize,
     number: u64,
     cuts: u64,
     runs: Vec<KeptRun<K>>,
-    born: Vec<KeptBirth<K>>,
+    born: Births<K>,
 }
 
 impl<K: Key> Model for Whole<K> {
-    ghost use Rattle.walk_runs.specs.Kept.{births_view, cuts_of};
+    ghost use Rattle.walk_runs.specs.Kept.{cuts_of};
     ghost use Rattle.walk_runs.specs.Levels.{IsKeptLevel, WholeLevel, cut_count, runs_view, whole_view};
     ghost use Rattle.std.specs.Prelude.{◌≡◌, ◌-◌};
 
     ghost Value = { WholeLevel };
 
-    ghost view = { λ w. whole_view w.processes w.number w.runs.items (births_view K.number w.born.items) };
+    ghost view = { λ w. whole_view w.processes w.number w.runs.items w.born };
 
     ghost invariant = { λ w.
-        IsKeptLevel K.room w.processes w.number w.runs.items (cuts_of (births_view K.number w.born.items))
+        IsKeptLevel K.room w.processes w.number w.runs.items (cuts_of w.born)
         × (w.cuts ≡ cut_count (runs_view (w.processes - 2) w.runs.items))
         × K.fits w.processes };
 }
@@ -93,8 +94,8 @@ fn hint(place: usize) -> u32 {
     u32::try_from(place).unwrap_or(u32::MAX)
 }
 
-/// The level after the one of these runs and births. Each run moves, and beside them stand the births whose prefix has
-/// no run yet: each prefix is born with the first of its births.
+/// The level after the one of these runs and births, which are sorted. Each run moves, and beside them stand the births
+/// whose prefix has no run yet: each prefix is born with the first of its births.
 fn next_level<K: Key>(
     alloc: Global,
     steps: &Steps<'_, '_>,
@@ -105,6 +106,7 @@ fn next_level<K: Key>(
     requires room { number < 18446744073709551615 }
     requires fits { K.fits (length steps.now) }
     requires kept { IsKeptLevel K.room (length steps.now) number olds.now (cuts_of (births_view K.number births.now)) }
+    requires sorted { AreInOrder (cuts_of (births_view K.number births.now)) }
     requires level { IsWholeLevel steps.now
         (whole_view (length steps.now) number olds.now (births_view K.number births.now)) }
     ensures level { IfOk result (IsWholeLevel steps.now) }
@@ -131,7 +133,6 @@ fn next_level<K: Key>(
         push_moved(steps, &olds[i], hint(i), &mut runs, &mut born)?;
         i += 1;
     }
-    let born = born.sorted()?;
     Ok(Whole {
         processes: others + 2,
         number: number + 1,
@@ -168,7 +169,6 @@ impl<K: Key> Whole<K> {
             y: 0,
         };
         add_births(steps, &empty, None, 0, &mut born)?;
-        let born = born.sorted()?;
         Ok(Whole {
             processes: others + 2,
             number: 0,
@@ -192,7 +192,8 @@ impl<K: Key> Whole<K> {
         ensures level { IfOk result (IsWholeLevel steps.now) }
         ensures number { IfOk result (λ next. next.number ≡ level.now.number + 1) }
     {
-        next_level(alloc, steps, level.number, &level.runs, &level.born)
+        let births = level.born.sorted()?;
+        next_level(alloc, steps, level.number, &level.runs, &births)
     }
 
     /// The number of the level, from 0: how many events each of its cuts has.
@@ -268,6 +269,29 @@ impl<K: Key> Whole<K> {
     {
         let run = &self.runs[i];
         run.key.digit(self.processes - 2, p)
+    }
+
+    /// Writes the counts of the prefix of run `i`, from 0, into a row that has a place for each.
+    pub fn write_prefix(&self, i: usize, counts: &mut [u64])
+        requires run { i < length self.now.runs }
+        requires places { length counts.old + 2 ≡ self.now.processes }
+        ensures { IfSome (slice_get self.now.runs i) (λ run. counts.new ≡ run.prefix) }
+    {
+        let run = &self.runs[i];
+        run.key.write(counts);
+    }
+
+    /// Whether run `i` has the prefix of run `j` of another level, both from 0, if that has as many processes. Keys are
+    /// compared, and no count is read.
+    pub fn has_prefix_of(&self, i: usize, other: &Whole<K>, j: usize) -> bool
+        requires run { i < length self.now.runs }
+        requires other { j < length other.now.runs }
+        ensures { IfSome (slice_get self.now.runs i) (λ run. IfSome (slice_get other.now.runs j) (λ same.
+            self.now.processes ≡ other.now.processes → IsTrue result ↔ (run.prefix ≡ same.prefix))) }
+    {
+        let run = &self.runs[i];
+        let same = &other.runs[j];
+        run.key.is_same(same.key)
     }
 
     /// A hint at the place of the run with the prefix of run `i` in the level before, if that has it: the key there has

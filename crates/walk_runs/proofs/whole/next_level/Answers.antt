@@ -76,7 +76,7 @@ loop-j-init g c =
     let births : List ℕ = cuts_of (births_view g.K.Key.number c.args.births.now) in
     let given = given_by g.K.Key.room c.args.steps.now c.args.number c.args.olds.now
     (births_view number c.args.births.now) c.limits.ensures.short
-    c.limits.ensures.walkable c.requires.kept c.requires.level in
+    c.limits.ensures.walkable c.requires.kept c.requires.sorted c.requires.level in
     subst (λ (born : List KeyedBirth). IsMerging c.args.steps.now c.args.number c.args.olds.now births 0 0
     c.in_ok-runs.runs.items born 0) (sym c.new-born.ensures)
     (subst (λ (runs : List KeyedRun). IsMerging c.args.steps.now c.args.number c.args.olds.now births 0 0 runs [] 0)
@@ -101,7 +101,7 @@ push_moved-requires-clause-run g c =
     let births : List ℕ = cuts_of (births_view g.K.Key.number c.args.births.now) in
     let given = given_by g.K.Key.room c.args.steps.now c.args.number c.args.olds.now
     (births_view number c.args.births.now) c.limits.ensures.short
-    c.limits.ensures.walkable c.requires.kept c.requires.level in
+    c.limits.ensures.walkable c.requires.kept c.requires.sorted c.requires.level in
     let lt = c.is_run_below.ensures.0 c.loop-runs-test.true in
     old_run g.K.Key.room c.args.steps.now c.args.number c.args.olds.now births given c.index-olds-i.result
     (old_at c.args.olds.now c.loop-runs.i c.index-olds-i.result lt.0 c.index-olds-i.is)
@@ -115,7 +115,7 @@ loop-runs-preserved g c =
     let births : List ℕ = cuts_of (births_view g.K.Key.number c.args.births.now) in
     let given = given_by g.K.Key.room c.args.steps.now c.args.number c.args.olds.now
     (births_view number c.args.births.now) c.limits.ensures.short
-    c.limits.ensures.walkable c.requires.kept c.requires.level in
+    c.limits.ensures.walkable c.requires.kept c.requires.sorted c.requires.level in
     let lt = c.is_run_below.ensures.0 c.loop-runs-test.true in
     let at : get_or births c.loop-j.j 0 ≡ number c.index-births-j.result.cut =
     birth_at number c.args.births.now c.loop-j.j c.index-births-j.result c.loop-j-test.true c.index-births-j.is in
@@ -147,7 +147,7 @@ push_born-requires-clause-cut g c =
     let births : List ℕ = cuts_of (births_view g.K.Key.number c.args.births.now) in
     let given = given_by g.K.Key.room c.args.steps.now c.args.number c.args.olds.now
     (births_view number c.args.births.now) c.limits.ensures.short
-    c.limits.ensures.walkable c.requires.kept c.requires.level in
+    c.limits.ensures.walkable c.requires.kept c.requires.sorted c.requires.level in
     let size : length births ≡ length c.args.births.now = births_size number c.args.births.now in
     let at : get_or births c.loop-j.j 0 ≡ number c.index-births-j-then-is_below_run.result.cut =
     birth_at number c.args.births.now c.loop-j.j c.index-births-j-then-is_below_run.result c.loop-j-test.true
@@ -168,7 +168,7 @@ push_born-requires-clause-young g c =
     let births : List ℕ = cuts_of (births_view g.K.Key.number c.args.births.now) in
     let given = given_by g.K.Key.room c.args.steps.now c.args.number c.args.olds.now
     (births_view number c.args.births.now) c.limits.ensures.short
-    c.limits.ensures.walkable c.requires.kept c.requires.level in
+    c.limits.ensures.walkable c.requires.kept c.requires.sorted c.requires.level in
     let size : length births ≡ length c.args.births.now = births_size number c.args.births.now in
     let at : get_or births c.loop-j.j 0 ≡ number c.index-births-j.result.cut =
     birth_at number c.args.births.now c.loop-j.j c.index-births-j.result c.loop-j-test.true c.index-births-j.is in
@@ -195,7 +195,7 @@ loop-j-preserved g c =
     let births : List ℕ = cuts_of (births_view g.K.Key.number c.args.births.now) in
     let given = given_by g.K.Key.room c.args.steps.now c.args.number c.args.olds.now
     (births_view number c.args.births.now) c.limits.ensures.short
-    c.limits.ensures.walkable c.requires.kept c.requires.level in
+    c.limits.ensures.walkable c.requires.kept c.requires.sorted c.requires.level in
     let size : length births ≡ length c.args.births.now = births_size number c.args.births.now in
     let lt : c.loop-j.j < length births = omega arith in
     let at : get_or births c.loop-j.j 0 ≡ number c.index-births-j.result.cut =
@@ -267,7 +267,7 @@ push_moved-requires-in-loop-i-clause-run g c =
     let births : List ℕ = cuts_of (births_view g.K.Key.number c.args.births.now) in
     let given = given_by g.K.Key.room c.args.steps.now c.args.number c.args.olds.now
     (births_view number c.args.births.now) c.limits.ensures.short
-    c.limits.ensures.walkable c.requires.kept c.requires.level in
+    c.limits.ensures.walkable c.requires.kept c.requires.sorted c.requires.level in
     old_run g.K.Key.room c.args.steps.now c.args.number c.args.olds.now births given c.index-olds-i-in-loop-i.result
     (old_at c.args.olds.now c.loop-i.i c.index-olds-i-in-loop-i.result c.loop-i-test.true c.index-olds-i-in-loop-i.is)
 
@@ -277,7 +277,7 @@ loop-i-preserved g c =
     let births : List ℕ = cuts_of (births_view g.K.Key.number c.args.births.now) in
     let given = given_by g.K.Key.room c.args.steps.now c.args.number c.args.olds.now
     (births_view number c.args.births.now) c.limits.ensures.short
-    c.limits.ensures.walkable c.requires.kept c.requires.level in
+    c.limits.ensures.walkable c.requires.kept c.requires.sorted c.requires.level in
     let size : length births ≡ length c.args.births.now = births_size number c.args.births.now in
     let old : KeyedRun = c.index-olds-i-in-loop-i.result in
     let key : get_or (keys_of c.args.olds.now) c.loop-i.i 0 ≡ c.index-olds-i-in-loop-i.result.key =
@@ -296,7 +296,7 @@ cuts_in-requires g c =
     let births : List ℕ = cuts_of (births_view g.K.Key.number c.args.births.now) in
     let given = given_by g.K.Key.room c.args.steps.now c.args.number c.args.olds.now
     (births_view number c.args.births.now) c.limits.ensures.short
-    c.limits.ensures.walkable c.requires.kept c.requires.level in
+    c.limits.ensures.walkable c.requires.kept c.requires.sorted c.requires.level in
     let end = at_end c.args.steps.now c.args.number c.args.olds.now births c.loop-i.i (length c.args.births.now)
     c.loop-i.runs.items c.loop-i.born c.loop-i.invariant.0 c.loop-i.invariant.1 c.loop-i-test.false
     (births_size number c.args.births.now) in
@@ -309,22 +309,21 @@ invariant_of-result g c =
     let births : List ℕ = cuts_of (births_view g.K.Key.number c.args.births.now) in
     let given = given_by g.K.Key.room c.args.steps.now c.args.number c.args.olds.now
     (births_view number c.args.births.now) c.limits.ensures.short
-    c.limits.ensures.walkable c.requires.kept c.requires.level in
+    c.limits.ensures.walkable c.requires.kept c.requires.sorted c.requires.level in
     let end = at_end c.args.steps.now c.args.number c.args.olds.now births c.loop-i.i (length c.args.births.now)
     c.loop-i.runs.items c.loop-i.born c.loop-i.invariant.0 c.loop-i.invariant.1 c.loop-i-test.false
     (births_size number c.args.births.now) in
     let e : length c.args.steps.now ≡ c.prefix-others.result + 2 =
     omega (arith, c.prefix-others.ensures, c.limits.ensures.two) in
-    let born : List KeyedBirth = births_view number c.in_ok-born.born.items in
     let counted : c.cuts_in.result ≡ cut_count (runs_view (c.prefix-others.result + 2 - 2) c.loop-i.runs.items) =
     c.cuts_in.ensures (c.prefix-others.result + 2 - 2)
     ∙ ap (λ (rs : List KeyedRun). cut_count (runs_view (c.prefix-others.result + 2 - 2) rs)) c.deref.ensures.value in
     let kept : IsKeptLevel g.K.Key.room (length c.args.steps.now) (c.args.number + 1) c.loop-i.runs.items
-    (cuts_of born) =
+    (cuts_of c.loop-i.born) =
     ended_kept g.K.Key.room c.args.steps.now c.args.number c.args.olds.now births given c.loop-i.runs.items
-    c.loop-i.born c.loop-i.invariant.0 end born c.in_ok-born.ensures.there c.in_ok-born.ensures.back
-    c.in_ok-born.ensures.ascends in (
-      subst (λ (m : ℕ). IsKeptLevel g.K.Key.room m (c.args.number + 1) c.loop-i.runs.items (cuts_of born)) e kept,
+    c.loop-i.born c.loop-i.invariant.0 end in (
+      subst (λ (m : ℕ). IsKeptLevel g.K.Key.room m (c.args.number + 1) c.loop-i.runs.items (cuts_of c.loop-i.born)) e
+          kept,
       counted,
       subst g.K.Key.fits e c.requires.fits,
     )
@@ -335,14 +334,13 @@ returns-clause-level g c =
     let births : List ℕ = cuts_of (births_view g.K.Key.number c.args.births.now) in
     let given = given_by g.K.Key.room c.args.steps.now c.args.number c.args.olds.now
     (births_view number c.args.births.now) c.limits.ensures.short
-    c.limits.ensures.walkable c.requires.kept c.requires.level in
+    c.limits.ensures.walkable c.requires.kept c.requires.sorted c.requires.level in
     let end = at_end c.args.steps.now c.args.number c.args.olds.now births c.loop-i.i (length c.args.births.now)
     c.loop-i.runs.items c.loop-i.born c.loop-i.invariant.0 c.loop-i.invariant.1 c.loop-i-test.false
     (births_size number c.args.births.now) in
     let e : length c.args.steps.now ≡ c.prefix-others.result + 2 =
     omega (arith, c.prefix-others.ensures, c.limits.ensures.two) in
-    let born : List KeyedBirth = births_view number c.in_ok-born.born.items in
-    subst (λ (m : ℕ). IsWholeLevel c.args.steps.now (whole_view m (c.args.number + 1) c.loop-i.runs.items born)) e
+    subst (λ (m : ℕ). IsWholeLevel c.args.steps.now
+    (whole_view m (c.args.number + 1) c.loop-i.runs.items c.loop-i.born)) e
     (ended_level g.K.Key.room c.args.steps.now c.args.number c.args.olds.now births given c.loop-i.runs.items
-    c.loop-i.born c.loop-i.invariant.0 end
-    born c.in_ok-born.ensures.there c.in_ok-born.ensures.back)
+    c.loop-i.born c.loop-i.invariant.0 end)

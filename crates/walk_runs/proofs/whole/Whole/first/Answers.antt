@@ -7,7 +7,7 @@ use Rattle.def_model.specs.Cuts.{IsConsistent}
 use Rattle.walk_keys.specs.Neighbors.{cut_at}
 use Rattle.walk_runs.specs.Levels.{IsKeptLevel, IsWholeLevel, cut_count, runs_view, whole_view}
 use Rattle.walk_runs.specs.Points.{GrowsBy}
-use Rattle.walk_runs.specs.Kept.{KeyedBirth, KeyedRun, births_view, cuts_of}
+use Rattle.walk_runs.specs.Kept.{KeyedBirth, KeyedRun, cuts_of}
 use Rattle.walk_runs.proofs.FirstLevel.{first_consistent, first_run, first_level, first_kept}
 use Rattle.walk_runs.proofs.whole.Whole.first.Goals as goal
 
@@ -43,12 +43,10 @@ invariant_of-result g c =
     (subst (λ (key : ℕ). GrowsBy c.args.steps.now (cut_at (digits (length c.args.steps.now - 2) key) 0 0) None
     (length c.args.steps.now - 2) c.new-born.result c.add_births.new.born) c.none-2.ensures
     c.in_ok-add_births.ensures) in
-    let born : List KeyedBirth = births_view g.K.Key.number c.in_ok-born.born.items in
+    let born : List KeyedBirth = c.add_births.new.born in
     let kept : IsKeptLevel g.K.Key.room (length c.args.steps.now) 0 (first_run ∷ []) (cuts_of born) =
     first_kept c.args.steps.now c.limits.ensures.short c.limits.ensures.walkable c.limits.ensures.two
-    c.add_births.new.born born grown c.in_ok-born.ensures.there
-    c.in_ok-born.ensures.back g.K.Key.room (g.met.K.Key.fits_room (length c.args.steps.now) c.requires)
-    c.in_ok-born.ensures.ascends in (
+    born grown g.K.Key.room (g.met.K.Key.fits_room (length c.args.steps.now) c.requires) in (
       subst (λ (rs : List KeyedRun). IsKeptLevel g.K.Key.room (c.prefix-others.result + 2) 0 rs (cuts_of born))
           (sym runs)
           (subst (λ (m : ℕ). IsKeptLevel g.K.Key.room m 0 (first_run ∷ []) (cuts_of born)) e kept),
@@ -73,10 +71,9 @@ returns-clause-level g c =
     (subst (λ (key : ℕ). GrowsBy c.args.steps.now (cut_at (digits (length c.args.steps.now - 2) key) 0 0) None
     (length c.args.steps.now - 2) c.new-born.result c.add_births.new.born) c.none-2.ensures
     c.in_ok-add_births.ensures) in
-    let born : List KeyedBirth = births_view g.K.Key.number c.in_ok-born.born.items in
+    let born : List KeyedBirth = c.add_births.new.born in
     subst (λ (rs : List KeyedRun). IsWholeLevel c.args.steps.now (whole_view (c.prefix-others.result + 2) 0 rs born))
     (sym runs)
     (subst (λ (m : ℕ). IsWholeLevel c.args.steps.now (whole_view m 0 (first_run ∷ []) born)) e
     (first_level c.args.steps.now c.limits.ensures.short
-    c.limits.ensures.walkable c.limits.ensures.two c.add_births.new.born
-    born grown c.in_ok-born.ensures.there c.in_ok-born.ensures.back))
+    c.limits.ensures.walkable c.limits.ensures.two born grown))
