@@ -8,6 +8,5 @@ pub mod MarkCounts
 pub mod FirstSatisfying
 pub mod MarkedKeys
 pub mod ListedCuts
-pub mod ReadPrefixes
 pub mod ByThreads
 pub mod SkippedWords

@@ -2,8 +2,9 @@
 ghost use Rattle.walk_marks.specs.RunPlaces.{run_at};
 ghost use Rattle.walk_marks.specs.SkippedRuns.{bit_limit, HoldsNowhere, IsSomeLevel, IsWordOf};
 ghost use Rattle.walk_tables.specs.Views.{CompiledView};
-ghost use Rattle.std.specs.Prelude.{◌≡◌, ◌+◌, ◌-◌, ◌<◌, ◌≤◌, length, slice_index, slice_index_or, take};
+ghost use Rattle.std.specs.Prelude.{◌≡◌, ◌+◌, ◌-◌, ◌<◌, ◌≤◌, length, slice_index_or};
 
+use super::run::write_prefix;
 use def_format::PROCESS_LIMIT;
 use walk_keys::{Key, SINGLE_LIMIT};
 use walk_runs::Whole;
@@ -46,23 +47,6 @@ fn word_of(tests: &[Compiled<'_, '_>], prefix: &[u64]) -> u16
     word
 }
 
-/// The count of process `p` of the prefix of run `i`, both from 0.
-fn count<K: Key>(level: &Whole<K>, i: usize, p: usize) -> u64
-    requires run { i < length level.now.runs }
-    requires prefix { p + 2 < level.now.processes }
-    ensures { result ≡ slice_index (run_at level.now.runs i).prefix p }
-{
-    level.count(i, p)
-}
-
-/// The first counts of a row.
-fn first_of(counts: &[u64], n: usize) -> &[u64]
-    requires { n ≤ length counts.now }
-    ensures { result.now ≡ take n counts.now }
-{
-    &counts[..n]
-}
-
 /// The word of run `i`, for which each predicate is asked. The run's prefix is written into the row of counts.
 pub(crate) fn asked<K: Key>(
     tests: &[Compiled<'_, '_>],
@@ -76,10 +60,9 @@ pub(crate) fn asked<K: Key>(
     ensures { IsWordOf tests.now (run_at level.now.runs i).prefix result }
 {
     level.limits();
-    for p in 0..level.processes() - 2 {
-        counts[p] = count(level, i, p);
-    }
-    word_of(tests, first_of(counts, level.processes() - 2))
+    let (prefix, _others) = counts.split_at_mut(level.processes() - 2);
+    write_prefix(level, i, prefix);
+    word_of(tests, prefix)
 }
 
 /// The same, with a row that has room for the processes.

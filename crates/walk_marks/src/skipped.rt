@@ -1,5 +1,5 @@
 //! The words of a level's runs.
-ghost use Rattle.walk_marks.specs.RunPlaces.{key_of_run, run_at};
+ghost use Rattle.walk_marks.specs.RunPlaces.{run_at};
 ghost use Rattle.walk_marks.specs.Skips.{HaveNoHits};
 ghost use Rattle.def_model.specs.Predicates.{test_of};
 ghost use Rattle.walk_marks.specs.SkippedRuns.{AreInAll, AreSkipped, IsSomeLevel, IsWordOf};
@@ -8,6 +8,7 @@ ghost use Rattle.walk_tables.specs.Views.{CompiledView};
 ghost use Rattle.std.specs.Prelude.{◌≡◌, ◌<◌, ◌≤◌, ℕ, IfOk, IfSome, List, length, slice_index, slice_index_or};
 
 use super::asked::{BITS, asked};
+use super::run;
 use super::skips::Skips;
 use super::skips_by_threads::{are_many, may_be_many, words_by_threads};
 use def_format::PROCESS_LIMIT;
@@ -38,20 +39,12 @@ impl Model for SkippedRuns {
     ghost invariant = { λ r. AreInAll r.words.items r.in_all };
 }
 
-/// The number whose digits are the counts of the prefix of run `i`.
-fn key<K: Key>(level: &Whole<K>, i: usize) -> K
-    requires { i < length level.now.runs }
-    ensures { K.number result ≡ key_of_run (run_at level.now.runs i) }
-{
-    level.key(i)
-}
-
 /// Whether the level before has no run with the prefix of run `i` at the place that this one hints at.
 pub(crate) fn is_born<K: Key>(before: &Whole<K>, level: &Whole<K>, i: usize) -> bool
     requires { i < length level.now.runs }
 {
     let at = level.from(i);
-    at >= before.len() || !key(before, at).is_same(key(level, i))
+    at >= before.len() || !run::has_prefix_of(before, at, level, i)
 }
 
 /// The word of the run with the prefix of run `i` in the level before, if that is at the place that run `i` hints at.
@@ -72,7 +65,7 @@ pub(crate) fn kept<K: Key>(
     before.limits();
     level.limits();
     let at = level.from(i);
-    if at < before.len() && key(before, at).is_same(key(level, i)) {
+    if at < before.len() && run::has_prefix_of(before, at, level, i) {
         return Some(skipped.word(at));
     }
     None
