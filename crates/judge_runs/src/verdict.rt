@@ -25,24 +25,4 @@ impl Verdict {
             Verdict::Fail | Verdict::NotJudged => false,
         }
     }
-
-    /// Whether it is that an answer isn't as wished.
-    pub fn is_fail(self) -> bool
-        ensures { result ≡ runs.is_same runs.Fail (verdict_view self) }
-    {
-        match self {
-            Verdict::Fail => true,
-            Verdict::Pass | Verdict::NotJudged => false,
-        }
-    }
-
-    /// Whether it is that there are no answers.
-    pub fn is_not_judged(self) -> bool
-        ensures { result ≡ runs.is_same runs.NotJudged (verdict_view self) }
-    {
-        match self {
-            Verdict::NotJudged => true,
-            Verdict::Pass | Verdict::Fail => false,
-        }
-    }
 }
