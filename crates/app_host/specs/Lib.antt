@@ -1,5 +1,4 @@
 pub mod FileSources
 pub mod Faults
 pub mod Formats
-pub mod Joins
 pub mod Addresses

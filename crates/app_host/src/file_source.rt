@@ -1,5 +1,5 @@
 //! Where files are read, and those of a session that is kept are written; and what hears how far a judgement has come.
-use super::retried::{Retried, interrupted, is_interrupted};
+use app_door::{Retried, interrupted, is_interrupted};
 use pd_engine::{ByteSource, Reached};
 use std::alloc::Global;
 use std::io::{ErrorKind, Read, Write};

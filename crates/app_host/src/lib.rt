@@ -7,15 +7,7 @@
 //! - `world`: what a run stands on
 //! - `file_source`: where files are read
 //! - `network`: where connections come from
-//! - `door`: what a connection has to say before it is a stream
-//! - `waiting`: a connection that hasn't said it yet
-//! - `room`: all of these
-//! - `stranger`: one that was closed before it had
-//! - `retried`: makes calls again that a signal interrupts
 //! - `addresses`: the addresses to which ports belong
-//! - `place_listener`: what listens for connections of the system
-//! - `place_connection`: a connection of the system
-//! - `private_files`: files of which sockets are only for the user who runs the program
 //! - `note`, `notes`, `noted_source`: what is read, for an explanation
 //! - `level_gate`: the gate of a walk over a session in files
 //! - `line`: writes a line to the errors
@@ -31,7 +23,6 @@
 mod addresses;
 mod checks;
 mod claim_files;
-mod door;
 mod file_source;
 mod json;
 mod judgements;
@@ -42,36 +33,25 @@ mod network;
 mod note;
 mod noted_source;
 mod notes;
-mod place_connection;
-mod place_listener;
-mod private_files;
-mod retried;
-mod room;
 mod session_files;
 mod status;
-mod stranger;
-mod waiting;
 mod world;
 
 pub use addresses::{is_loopback, port_of_address};
 pub use checks::{check_files, check_seen};
 pub use claim_files::read_claim;
-pub use door::Door;
 pub use file_source::FileSource;
 pub use judgements::{judge_files, judge_read};
 pub use level_gate::LevelGate;
 pub use line::write_line;
 pub use named::{has_named, is_out_of_memory};
-pub use network::{Arrival, Network};
+pub use network::Network;
 pub use note::Note;
 pub use noted_source::NotedSource;
 pub use notes::Notes;
-pub use retried::Retried;
-pub use room::Room;
 pub use session_files::{open_noted, read_document, read_session};
 pub use status::{
     ALARMED, FAILED, MISUSED, REFUSED, SUCCESS, conclusion_status, report_bundle, report_end,
     report_fault, report_judgement, report_no_predicate,
 };
-pub use stranger::{Stranger, StrangerReason};
 pub use world::{System, World};

@@ -1,29 +1,18 @@
 //! Where connections come from.
-ghost use Rattle.app_host.specs.Joins.{joined_by, taken_view};
-ghost use Rattle.pd_spec.specs.Views.{document_view};
-ghost use Rattle.std.specs.Prelude.{◌≡◌, ℕ, IfOk, IfSome, IsSome, None, Some, false};
-
 use super::addresses::port_of_address;
-use super::door::read_token;
 use super::file_source::system_name;
-use super::place_connection::{Link, PlaceConnection};
-use super::place_listener::{PlaceListener, listen_at};
-use super::room::{PATIENCE, Room};
-use super::stranger::{Stranger, StrangerReason};
 use app_arguments::Place;
+use app_door::{
+    Arrival, PlaceConnection, PlaceListener, Room, address_of, connection_before, listen_at,
+    next_arrival, read_token,
+};
 use pd_engine::ByteSource;
 use std::alloc::{AllocError, Global};
-use std::io::{Eprint, ErrorKind, Read, Write};
-use std::net::{Net, OpenListener, OpenStream};
+use std::io::{Eprint, ErrorKind, Write};
+use std::net::Net;
 use std::rt::Files;
 use std::time::{Clock, Duration, Instant};
-use std::{fs, io, thread};
-
-/// How many milliseconds the listener of a place is left alone, if nobody has connected, before it is asked again.
-const PAUSE: u64 = 10;
-
-/// The next connection that joined a process, if one came in time, or one that was closed before it did.
-pub type Arrival<C> = Result<Option<C>, Stranger>;
+use std::{fs, io};
 
 /// Accepts connections to places. What a connection has to give may be known, as it is in proofs over a network that is
 /// made up; of the system's network nothing is known.
@@ -149,119 +138,6 @@ pub trait Network {
     fn tell(&self, _text: &[u8]) {}
 }
 
-/// The next connection that has come, if one has come before this moment.
-fn connection_before<L: OpenListener, R: Files + Copy, C: Clock>(
-    clock: &C,
-    listener: &PlaceListener<L, R>,
-    end: Instant,
-) -> io::Result<Option<PlaceConnection<L::Stream>>> {
-    for _turn in 0..u64::MAX {
-        match listener.accept() {
-            Ok(connection) => return Ok(Some(connection)),
-            Err(error) if error.kind() == ErrorKind::WouldBlock => {}
-            Err(error) => return Err(error),
-        }
-        if Instant::now(clock)? >= end {
-            return Ok(None);
-        }
-        thread::sleep(clock, Duration::from_millis(PAUSE));
-    }
-    Ok(None)
-}
-
-/// Whether the time ends by now, if it has an end.
-fn is_over(end: Option<Instant>, now: Instant) -> bool
-    ensures { end ≡ None → result ≡ false }
-{
-    match end {
-        Some(end) => now >= end,
-        None => false,
-    }
-}
-
-/// Whether a place from which no connection could be accepted for this reason may give one later: none has come, or
-/// one broke off before.
-fn is_passing(error: ErrorKind) -> bool {
-    matches!(
-        error,
-        ErrorKind::WouldBlock
-            | ErrorKind::ConnectionAborted
-            | ErrorKind::ConnectionReset
-            | ErrorKind::Interrupted
-    )
-}
-
-/// The address of who made this connection, if it is known.
-fn address_of<S: OpenStream>(
-    alloc: Global,
-    connection: &PlaceConnection<S>,
-) -> Result<Option<String>, AllocError> {
-    let Link::Port(stream) = connection.link() else {
-        return Ok(None);
-    };
-    match stream.peer_addr() {
-        Ok(address) => Ok(Some(format!(in alloc; "{address}")?)),
-        Err(_) => Ok(None),
-    }
-}
-
-/// What is known of a connection that is closed for this reason.
-fn stranger_of<S: OpenStream + Drop>(
-    alloc: Global,
-    connection: &PlaceConnection<S>,
-    reason: StrangerReason,
-) -> Result<Stranger, AllocError> {
-    let start = match reason {
-        StrangerReason::Token => &[],
-        _ => connection.taken(),
-    };
-    Ok(Stranger {
-        address: address_of(alloc, connection)?,
-        reason,
-        start: Vec::from_slice(alloc, start)?,
-    })
-}
-
-/// The next of those in the room that joined a process, or is closed, if there is one.
-fn next_out<S: OpenStream + Read + Drop>(
-    room: &mut Room<'_, PlaceConnection<S>>,
-    now: Instant,
-) -> io::Result<Option<Arrival<PlaceConnection<S>>>>
-    ensures some { IfOk result (λ out. IfSome out (λ arrival. IfOk arrival IsSome)) }
-    ensures joined { IfOk result (λ out. IfSome out (λ arrival. IfOk arrival (λ found. IfSome found (λ connection.
-        (process : ℕ) × (joined_by (document_view room.old.door.spec.now).names (taken_view connection)
-        ≡ Some process))))) }
-{
-    let alloc = room.alloc();
-    let Some((connection, reason)) = room.next_out(now)? else {
-        return Ok(None);
-    };
-    if let Some(reason) = reason {
-        return Ok(Some(Err(stranger_of(alloc, &connection, reason)?)));
-    }
-    connection.set_nonblocking(false)?;
-    Ok(Some(Ok(Some(connection))))
-}
-
-/// Has a connection that has just come wait in the room, and gives the one that was closed for it, if one was.
-fn enter<S: OpenStream + Drop>(
-    room: &mut Room<'_, PlaceConnection<S>>,
-    connection: PlaceConnection<S>,
-    now: Instant,
-) -> io::Result<Option<Stranger>> {
-    let alloc = room.alloc();
-    connection.set_nonblocking(true)?;
-    let Some(end) = now.checked_add(Duration::from_secs(PATIENCE)) else {
-        return Err(io::Error::from(ErrorKind::InvalidInput));
-    };
-    let closed = room.make_room();
-    room.enter(connection, end)?;
-    match closed {
-        Some(other) => Ok(Some(stranger_of(alloc, &other, StrangerReason::Crowded)?)),
-        None => Ok(None),
-    }
-}
-
 impl<R: Net + Files + Clock + Eprint + Copy + Sync> Network for R
 where
     R::Listener: Sync,
@@ -311,28 +187,7 @@ where
         room: &mut Room<'_, PlaceConnection<R::Stream>>,
         end: Option<Instant>,
     ) -> io::Result<Arrival<PlaceConnection<R::Stream>>> {
-        listener.wait_for_none()?;
-        for _turn in 0..u64::MAX {
-            let now = Instant::now(self)?;
-            if let Some(arrival) = next_out(room, now)? {
-                return Ok(arrival);
-            }
-            if is_over(end, now) {
-                return Ok(Ok(None));
-            }
-            match listener.accept() {
-                Ok(connection) => {
-                    if let Some(stranger) = enter(room, connection, now)? {
-                        return Ok(Err(stranger));
-                    }
-                }
-                Err(error) if is_passing(error.kind()) => {
-                    thread::sleep(self, Duration::from_millis(PAUSE));
-                }
-                Err(error) => return Err(error),
-            }
-        }
-        Err(io::Error::from(ErrorKind::TimedOut))
+        next_arrival(self, listener, room, end)
     }
 
     fn limit_silence(

@@ -6,7 +6,8 @@ ghost use Rattle.std.specs.Prelude.{◌≡◌, ◌⊎◌, IfErr, IfOk, IsOk, Non
 use super::host::Host;
 use super::service_fault::ServiceFault;
 use super::strangers::tell_stranger;
-use app_host::{Door, Network, Room};
+use app_door::{Door, Room};
+use app_host::Network;
 use judge_session::EngineFault;
 use pd_engine::Spec;
 use std::io;

@@ -30,9 +30,10 @@ use super::service_fault::ServiceFault;
 use super::service_notices::ServiceNotices;
 use super::watchers::Watchers;
 use app_arguments::{Place, Workers};
+use app_door::Room;
 use app_host::{
-    FileSource, Network, NotedSource, Room, System, World, is_out_of_memory, judge_read,
-    open_noted, read_document,
+    FileSource, Network, NotedSource, System, World, is_out_of_memory, judge_read, open_noted,
+    read_document,
 };
 use def_judgement::one_document;
 use judge_session::EngineFault;

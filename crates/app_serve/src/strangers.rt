@@ -1,7 +1,8 @@
 //! Tells of connections that are closed before they are streams.
 use super::host::Host;
+use app_door::{PATIENCE, ROOM_LIMIT, Stranger, StrangerReason};
 use app_ends::rows_of;
-use app_host::{Network, Stranger, StrangerReason};
+use app_host::Network;
 use app_text::{say, say_number, say_shown, show_line};
 use std::alloc::{AllocError, Global};
 
@@ -11,15 +12,25 @@ const TELLING: &str = "serve: ";
 /// Of how many connections it is told one by one that they are closed.
 const TOLD_LIMIT: u64 = 16;
 
-/// Why a connection is closed.
-fn reason_text(reason: StrangerReason) -> &'static str {
+/// Puts why a connection is closed.
+///
+/// # Errors
+/// Out of memory; what was put until then stays.
+fn say_reason(out: &mut Vec<u8>, reason: StrangerReason) -> Result<(), AllocError> {
     match reason {
-        StrangerReason::Ended => "it ended before it had said whose stream it is",
-        StrangerReason::Silent => "it didn't say within 5 seconds whose stream it is",
-        StrangerReason::Crowded => "63 others wait that haven't said whose streams they are",
-        StrangerReason::Token => "its first line isn't the token",
-        StrangerReason::Join => "its first line joins no process of the document",
-        StrangerReason::Taken => "it joins a process that has a stream",
+        StrangerReason::Ended => say(out, "it ended before it had said whose stream it is"),
+        StrangerReason::Silent => {
+            say(out, "it didn't say within ")?;
+            say_number(out, PATIENCE)?;
+            say(out, " seconds whose stream it is")
+        }
+        StrangerReason::Crowded => {
+            say_number(out, ROOM_LIMIT as u64 - 1)?;
+            say(out, " others wait that haven't said whose streams they are")
+        }
+        StrangerReason::Token => say(out, "its first line isn't the token"),
+        StrangerReason::Join => say(out, "its first line joins no process of the document"),
+        StrangerReason::Taken => say(out, "it joins a process that has a stream"),
     }
 }
 
@@ -41,7 +52,7 @@ fn stranger_text(alloc: Global, stranger: &Stranger) -> Result<Vec<u8>, AllocErr
         say_shown(&mut out, address.as_bytes())?;
     }
     say(&mut out, " is closed: ")?;
-    say(&mut out, reason_text(stranger.reason))?;
+    say_reason(&mut out, stranger.reason)?;
     if stranger.start.is_empty() {
         say(&mut out, ".\n")?;
         return Ok(out);

@@ -2,7 +2,7 @@
 //! which runs it.
 #![tactic(auto)]
 
-use app_host::Retried;
+use app_door::Retried;
 use app_progress::{Cleared, Limited, Screen, ShownFile, ShownFiles, TimedRun};
 use std::env::{Env, FillError};
 use std::io::{IsTerminal, Write};

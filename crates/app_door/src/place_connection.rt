@@ -1,6 +1,6 @@
 //! A connection of the system.
-ghost use Rattle.app_host.specs.Joins.{taken_view};
-ghost use Rattle.std.specs.Prelude.{◌≡◌, drop, take};
+ghost use Rattle.app_door.specs.Doors.{received, unread};
+ghost use Rattle.std.specs.Prelude.{◌≡◌, ◌++◌, ◌<◌, ◌≤◌, ℕ, List, [], IfErr, IfOk, drop, length, min, take};
 
 use super::retried::Retried;
 use std::alloc::{AllocError, Global};
@@ -33,7 +33,7 @@ pub struct PlaceConnection<S> {
 }
 
 /// The bytes after this many.
-fn bytes_after(bytes: &[u8], count: usize) -> &[u8]
+pub(crate) fn bytes_after(bytes: &[u8], count: usize) -> &[u8]
     ensures { result.now ≡ drop count bytes.now }
 {
     if count <= bytes.len() {
@@ -43,9 +43,22 @@ fn bytes_after(bytes: &[u8], count: usize) -> &[u8]
     }
 }
 
+/// Copies the first bytes into the piece, as many as there are and have room, and gives how many they are.
+fn copy_first(bytes: &[u8], piece: &mut [u8]) -> usize
+    ensures count { result ≡ min (length bytes.now) (length piece.old) }
+    ensures room { length piece.new ≡ length piece.old }
+    ensures first { take result piece.new ≡ take result bytes.now }
+{
+    let count = bytes.len().min(piece.len());
+    piece[..count].copy_from_slice(&bytes[..count]);
+    count
+}
+
 impl<S> PlaceConnection<S> {
     /// The connection of this link, of which nothing was taken in.
-    pub(crate) fn new(link: Link<S>) -> PlaceConnection<S> {
+    pub(crate) fn new(link: Link<S>) -> PlaceConnection<S>
+        ensures { received result ≡ [] }
+    {
         PlaceConnection {
             link: Retried::new(link),
             taken: None,
@@ -58,23 +71,48 @@ impl<S> PlaceConnection<S> {
         self.link.inner()
     }
 
-    /// The bytes that were taken in and not read yet.
-    pub(crate) fn taken(&self) -> &[u8]
-        ensures { result.now ≡ taken_view self.now }
+    /// All bytes that were taken in.
+    pub(crate) fn received(&self) -> &[u8]
+        ensures { result.now ≡ received self.now }
     {
         match &self.taken {
-            Some(taken) => bytes_after(taken, self.read),
+            Some(taken) => taken,
             None => &[],
         }
     }
 
-    /// Passes over this many of the bytes that were taken in.
-    pub(crate) fn skip(&mut self, count: usize) {
-        self.read = self.read.saturating_add(count);
+    /// The bytes that were taken in and not read yet.
+    pub(crate) fn unread(&self) -> &[u8]
+        ensures { result.now ≡ unread self.now }
+    {
+        bytes_after(self.received(), self.read)
+    }
+
+    /// Has reads begin after this many of the bytes that were taken in.
+    pub(crate) fn start_at(&mut self, count: usize)
+        ensures same { received self.new ≡ received self.old }
+        ensures unread { unread self.new ≡ drop count (received self.old) }
+    {
+        self.read = count;
+    }
+
+    /// Moves the next of the bytes that were taken in into the piece, as many as there are and have room, and gives how
+    /// many they are.
+    fn read_taken(&mut self, piece: &mut [u8]) -> usize
+        ensures within { result ≤ length piece.new }
+        ensures first { unread self.old ≡ take result piece.new ++ unread self.new }
+        ensures none { result ≡ 0 → 0 < length piece.new → unread self.old ≡ [] }
+    {
+        let count = copy_first(self.unread(), piece);
+        self.read += count;
+        count
     }
 
     /// Keeps these bytes for later reads, after what was taken in before.
-    fn keep(&mut self, alloc: Global, bytes: &[u8]) -> Result<(), AllocError> {
+    fn keep(&mut self, alloc: Global, bytes: &[u8]) -> Result<(), AllocError>
+        ensures ok { IfOk result (λ _. received self.new ≡ received self.old ++ bytes.now) }
+        ensures err { IfErr result (λ _. received self.new ≡ received self.old) }
+    {
         if let Some(taken) = &mut self.taken {
             taken.extend_from_slice(bytes)?;
             return Ok(());
@@ -100,7 +138,7 @@ impl<S: OpenStream> PlaceConnection<S> {
     ///
     /// # Errors
     /// If that can't be had.
-    pub(crate) fn limit_silence(&self, silence: Duration) -> io::Result<()> {
+    pub fn limit_silence(&self, silence: Duration) -> io::Result<()> {
         match self.link() {
             Link::Port(stream) => stream.set_read_timeout(Some(silence)),
             Link::Socket(stream) => stream.set_read_timeout(Some(silence)),
@@ -110,10 +148,10 @@ impl<S: OpenStream> PlaceConnection<S> {
     /// Puts the first bytes that have come and weren't read into the piece, and gives how many they are. It waits for
     /// none. Those that came to a socket are lost to whoever reads later: the system's own reading that leaves them
     /// isn't there for one.
-    pub(crate) fn first_bytes(&self, piece: &mut [u8]) -> usize {
-        let mut taken = self.taken();
-        if !taken.is_empty() {
-            return taken.read(piece).unwrap_or(0);
+    pub fn first_bytes(&self, piece: &mut [u8]) -> usize {
+        let mut unread = self.unread();
+        if !unread.is_empty() {
+            return unread.read(piece).unwrap_or(0);
         }
         if self.set_nonblocking(true).is_err() {
             return 0;
@@ -133,13 +171,15 @@ impl<S: Read> PlaceConnection<S> {
     /// waited for has to be one that doesn't wait.
     ///
     /// # Errors
-    /// Out of memory.
-    pub(crate) fn take_in(&mut self, alloc: Global) -> Result<bool, AllocError> {
+    /// Out of memory; what has come is lost.
+    pub(crate) fn take_in(&mut self, alloc: Global) -> Result<bool, AllocError>
+        ensures { (more : List ℕ) × (received self.new ≡ received self.old ++ more) }
+    {
         let mut piece = [0u8; PIECE];
         match self.link.read(&mut piece) {
             Ok(0) => Ok(false),
             Ok(count) => {
-                self.keep(alloc, piece.get(..count).unwrap_or(&[]))?;
+                self.keep(alloc, &piece[..count])?;
                 Ok(true)
             }
             Err(error) => Ok(error.kind() == ErrorKind::WouldBlock),
@@ -175,11 +215,8 @@ impl<S: Write> Write for Link<S> {
 impl<S: Read> Read for PlaceConnection<S> {
     /// What was taken in comes first. A peer that says nothing for as long as silence is limited to has ended.
     fn read(&mut self, piece: &mut [u8]) -> io::Result<usize> {
-        let mut taken = self.taken();
-        if !taken.is_empty() {
-            let count = taken.read(piece)?;
-            self.skip(count);
-            return Ok(count);
+        if !self.unread().is_empty() {
+            return Ok(self.read_taken(piece));
         }
         match self.link.read(piece) {
             Err(error) if error.kind() == ErrorKind::WouldBlock => Ok(0),

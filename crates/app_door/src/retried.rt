@@ -21,7 +21,7 @@ impl<S> Retried<S> {
 }
 
 /// Whether a call failed because a signal interrupted it.
-pub(crate) fn is_interrupted<T>(outcome: &io::Result<T>) -> bool {
+pub fn is_interrupted<T>(outcome: &io::Result<T>) -> bool {
     match outcome {
         Ok(_) => false,
         Err(error) => error.kind() == ErrorKind::Interrupted,
@@ -29,7 +29,7 @@ pub(crate) fn is_interrupted<T>(outcome: &io::Result<T>) -> bool {
 }
 
 /// What is said of a call that a signal interrupted each time.
-pub(crate) fn interrupted() -> io::Error {
+pub fn interrupted() -> io::Error {
     io::Error::from(ErrorKind::Interrupted)
 }
 

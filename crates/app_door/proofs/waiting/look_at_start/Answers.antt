@@ -2,7 +2,7 @@
 use Rattle.std.proofs.Common.{◌≡◌, ◌∙◌, ℕ, Some, [], ap, sym}
 use Rattle.def_format.specs.Readings.{Reading}
 use Rattle.def_format.specs.ReadingLaws.{process_of}
-use Rattle.app_host.proofs.waiting.look_at_start.Goals as goal
+use Rattle.app_door.proofs.waiting.look_at_start.Goals as goal
 
 pub returns-in-Some : goal.returns-in-Some
 returns-in-Some c process same =

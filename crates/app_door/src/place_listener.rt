@@ -37,10 +37,7 @@ pub enum PlaceListener<L, R: Files + Copy> {
 ///
 /// # Errors
 /// If it can't be made, as where something is at that path: then that is left as it is.
-pub(crate) fn listen_at<R: Files + Net + Copy>(
-    rt: &R,
-    path: &str,
-) -> io::Result<SocketListener<R>> {
+pub fn listen_at<R: Files + Net + Copy>(rt: &R, path: &str) -> io::Result<SocketListener<R>> {
     let listener = bind_private(rt, path)?;
     Ok(SocketListener { listener, rt: *rt })
 }
@@ -50,7 +47,7 @@ impl<L: OpenListener, R: Files + Copy> PlaceListener<L, R> {
     ///
     /// # Errors
     /// If it can't be accepted, or would be waited for by one who doesn't wait.
-    pub(crate) fn accept(&self) -> io::Result<PlaceConnection<L::Stream>> {
+    pub fn accept(&self) -> io::Result<PlaceConnection<L::Stream>> {
         match self {
             PlaceListener::Port(listener) => {
                 let (connection, _) = listener.accept()?;
@@ -67,7 +64,7 @@ impl<L: OpenListener, R: Files + Copy> PlaceListener<L, R> {
     ///
     /// # Errors
     /// If that can't be had.
-    pub(crate) fn wait_for_none(&self) -> io::Result<()> {
+    pub fn wait_for_none(&self) -> io::Result<()> {
         match self {
             PlaceListener::Port(listener) => listener.set_nonblocking(true),
             PlaceListener::Socket(socket) => socket.listener.set_nonblocking(true),
@@ -75,7 +72,7 @@ impl<L: OpenListener, R: Files + Copy> PlaceListener<L, R> {
     }
 
     /// The port to which it is bound, if it is one and that is known.
-    pub(crate) fn port(&self) -> Option<u16> {
+    pub fn port(&self) -> Option<u16> {
         match self {
             PlaceListener::Port(listener) => match listener.local_addr() {
                 Ok(address) => Some(address.port()),

@@ -1,0 +1,2 @@
+pub mod Admissions
+pub mod TokenLines
