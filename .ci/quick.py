@@ -28,6 +28,7 @@ def build(name, folder):
     if not all(build(other, folder) for other in layout.below(name, direct)
                if not os.path.exists(library(folder, other))):
         return False
+    print(f"x check: {name} is proved for its library, which takes minutes", file=sys.stderr)
     words = layout.rattle_words("build", name, lambda other: library(folder, other))
     words += ["--links", f"{name}=", "--jobs", "1", "--statements", "-o", library(folder, name)]
     return subprocess.run(words, cwd=os.path.join(layout.ROOT, "crates", name), check=False).returncode == 0
