@@ -126,6 +126,29 @@ def patient(server):
     both(server)
 
 
+def blank(server):
+    """A stranger that sends blank lines alone is closed once they are too long, and not after five seconds."""
+    began = time.monotonic()
+    has_closed(sent(server, b"\n" * 65_537))
+    if time.monotonic() - began > 4:
+        raise Differs("the stranger is closed late")
+    both(server)
+
+
+def hidden(server):
+    """A part of a token isn't shown of a stranger that ends after it, nor what stands in place of one."""
+    tells(server, f"serve: port {server.port} of this machine waits for the streams of `a`, `b`.\n".encode())
+    tells(server, b"serve: a connection is a stream once it joins one of these, after a line with\n"
+                  b"  the token; each other one is closed.\n")
+    for said, why in ((SAID[:6], b"it ended before it had said\n  whose stream it is.\n"),
+                      (SAID[:6] + b"\n", b"its first line isn't the\n  token.\n")):
+        stranger = sent(server, said)
+        port = stranger.getsockname()[1]
+        stranger.shutdown(socket.SHUT_WR)
+        tells(server, f"serve: a connection from 127.0.0.1:{port} is closed: ".encode() + why)
+    server.process.kill()
+
+
 def listens(server):
     """What is told once the server listens."""
     tells(server, f"serve: port {server.port} of this machine waits for the streams of `a`, `b`.\n".encode())
@@ -196,6 +219,7 @@ def cases():
     yield "a browser, NUL bytes, a TLS hello", after(http, b"\0" * 99 + b"\n", b"\x16\x03\x01\n"), first, good
     yield "no process of the document", after(b'{"process":"c"}\n', b'{}\n', b'{"process":1}\n'), first, good
     yield "a first line that is too long", after(b"x" * 65_537), first, good
+    yield "blank lines that are too long", blank, first, good
     yield "strangers that say nothing", silent, first, good
     yield "the streams, byte by byte", by_bytes(), first, good
     yield "a flood of strangers", flood, first, good
@@ -220,6 +244,7 @@ def cases():
     yield "a stream that doesn't", talks, {"asked": ["--idle", "1"]}, good
     yield "one of two joins in time", lasts(waits, 2), {"asked": [*FIRST, "--wait", "2"]}, (3, b"", NO_NETWORK)
     yield "what is told of strangers", told, {"asked": [*FIRST, "--explain"]}, (-9, b"", b"")
+    yield "what isn't told of a token", hidden, {"asked": [*TOKEN, "--explain"]}, (-9, b"", b"")
     options = {"asked": [*FIRST, "--explain", "--wait", "2"]}
     yield "what is told at the end", waits_told, options, (3, b"", MISSED + NO_NETWORK)
 
