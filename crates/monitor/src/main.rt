@@ -2,12 +2,20 @@
 //! which runs it.
 #![tactic(auto)]
 
+ghost use Rattle.std.specs.Prelude.{◌≡◌, false};
+
 use app_door::Retried;
+use app_host::{FileSource, Network};
+use app_parts::{Bundled, Given, PartFiles, find_bundle, read_input, report_unread};
 use app_progress::{Cleared, Limited, Screen, ShownFile, ShownFiles, TimedRun};
+use pd_gather::ByteSource;
+use std::alloc::Global;
 use std::env::{Env, FillError};
 use std::io::{IsTerminal, Write};
 use std::process::ExitCode;
-use std::sync::Arc;
+use std::random::RandomSource;
+use std::sync::{Arc, Wait};
+use std::thread::Threads;
 use std::{env, fs, io, thread};
 
 /// What is said of a bundle that is to be typed at a terminal.
@@ -89,6 +97,8 @@ struct Asked {
     seconds: Option<u64>,
     /// Whether explanations are wanted.
     explain: bool,
+    /// Whether the bundle on the input is asked for by a command.
+    is_bundled: bool,
 }
 
 /// What is asked for: explanations if the errors go to a terminal, or by the word `--explain` or `MONITOR_EXPLAIN=1`.
@@ -105,17 +115,70 @@ fn read_arguments<E: Write + IsTerminal>(rt: &HostRuntime, errors: &mut E) -> Re
         Err(fault) => return Err(report(fault.text().as_bytes(), errors, MISUSED)),
     };
     let explain = is_asked || is_explained(rt) || errors.is_terminal();
-    if explain && arguments.len() <= 1 && rt.stdin().is_terminal() {
-        let _ = errors.write_all(BUNDLE_READ);
-    }
     if inputs(&arguments) > 1 {
         return Err(report(INPUT_TWICE, errors, MISUSED));
+    }
+    let Ok(
+        Bundled {
+            arguments,
+            is_asked: is_bundled,
+        },
+    ) = find_bundle(rt.alloc(), arguments)
+    else {
+        return Err(report(MEMORY, errors, FAILED));
+    };
+    if explain && (is_bundled || arguments.len() <= 1) && rt.stdin().is_terminal() {
+        let _ = errors.write_all(BUNDLE_READ);
     }
     Ok(Asked {
         arguments,
         seconds,
         explain,
+        is_bundled,
     })
+}
+
+/// Runs the program on what is asked for, over these files, and gives its exit status. The parts of a bundle that a
+/// command asks for are read first, and are files too.
+fn run_asked<
+    S: RandomSource + Threads + Wait + Sync,
+    F: FileSource,
+    N: Network + Sync,
+    I: ByteSource + Drop,
+    O: Write,
+    E: Write,
+>(
+    rt: &S,
+    files: &F,
+    network: &N,
+    alloc: Global,
+    asked: Asked,
+    input: I,
+    output: &mut O,
+    errors: &mut E,
+) -> u8
+    requires { I.has_ended input ≡ false }
+{
+    let Asked {
+        arguments,
+        seconds: _,
+        explain,
+        is_bundled,
+    } = asked;
+    let given = match read_input(alloc, is_bundled, arguments, input) {
+        Ok(given) => given,
+        Err(fault) => return report_unread(alloc, fault, explain, errors),
+    };
+    // What is handed on is moved out before a part of it is lent.
+    let Given {
+        arguments,
+        parts,
+        input,
+    } = given;
+    let files = PartFiles::new(files, &parts);
+    pd_cli::run(
+        rt, &files, network, alloc, arguments, input, explain, output, errors,
+    )
 }
 
 /// Each of the three standard descriptors that was closed is taken before any other file is opened. Else a file that is
@@ -132,12 +195,8 @@ fn main(rt: HostRuntime) -> ExitCode {
         Ok(asked) => asked,
         Err(status) => return ExitCode::from(status),
     };
-    let Asked {
-        arguments,
-        seconds,
-        explain,
-    } = asked;
-    let limited = Limited::new(&arguments, seconds.unwrap_or(0), explain);
+    let seconds = asked.seconds;
+    let limited = Limited::new(&asked.arguments, seconds.unwrap_or(0), asked.explain);
     let is_shown = errors.is_terminal() && can_write_over(&rt);
     let Ok(ours) = Arc::new(rt.alloc(), TimedRun::new(is_shown || seconds.is_some())) else {
         return ExitCode::from(report(MEMORY, &mut errors, FAILED));
@@ -147,16 +206,15 @@ fn main(rt: HostRuntime) -> ExitCode {
     };
     let run = move || -> u8 {
         // What is handed on is moved out of the closure before a part of it is lent.
-        let arguments = arguments;
+        let asked = asked;
         let screen = Screen::new(&rt, &theirs.progress, is_shown);
-        let status = pd_cli::run(
+        let status = run_asked(
             &rt,
             &ShownFiles::new(&rt, &screen),
             &rt,
             rt.alloc(),
-            arguments,
+            asked,
             ShownFile::new(Retried::new(rt.stdin()), 0, &screen),
-            explain,
             &mut Cleared::new(Retried::new(rt.stdout()), &screen, limited.is_test),
             &mut Cleared::new(Retried::new(rt.stderr()), &screen, false),
         );
