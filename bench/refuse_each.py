@@ -4,14 +4,15 @@
 An input is a bundle, or a folder with `session.json`, `report` and files `NAME.stream`. A folder is judged from its
 files, by one worker and by two, with --beyond-width and --fail-on, and as a bundle; its report is checked and drawn;
 its run is explored; and its streams are served, with a watcher. Small sessions are run beside them: one that is judged,
-one with messages, which is also served and kept, and served to those who join with a token, one with a causal cycle,
-one with wide levels, and one of sixteen processes; and one of width 1, that is judged and served with these two options
-alone, has predicates for each way to answer, and is judged once with others in their place. For each of these runs and
-each N, counted upward until a run meets no refusal, the program runs with its Nth allocation refused; then with its Nth
-read or receipt failing, its Nth write, what it sends to a watcher, its Nth opened file, accepted connection, folder
-that is made and file that is renamed; and with the Nth of all these, and of its sleeps, failing as one does that a
-signal interrupts. Before these it runs once with each allocation slow: a thread that asks for memory under a lock lets
-the others wait for the lock meanwhile, so an unlock that wakes nobody leaves a run without an end.
+one with messages, which is also served and kept, served to those who join with a token, and given as a bundle with
+these commands, one with a causal cycle, one with wide levels, and one of sixteen processes; and one of width 1, that is
+judged and served with these two options alone, has predicates for each way to answer, and is judged once with others in
+their place. For each of these runs and each N, counted upward until a run meets no refusal, the program runs with its
+Nth allocation refused; then with its Nth read or receipt failing, its Nth write, what it sends to a watcher, its Nth
+opened file, accepted connection, folder that is made and file that is renamed; and with the Nth of all these, and of
+its sleeps, failing as one does that a signal interrupts. Before these it runs once with each allocation slow: a thread
+that asks for memory under a lock lets the others wait for the lock meanwhile, so an unlock that wakes nobody leaves a
+run without an end.
 
 It must end as a run that is refused nothing; or, for an allocation, with status 4, nothing on standard output and
 `monitor: memory` on standard error; for a read, with status 3 and `monitor: read`, or with what is made of a stream
@@ -229,7 +230,10 @@ def runs_of(program, name, path):
     joins = [program, "serve", "--join-first", "--token", "x", "--idle", "60", "--wait", "1", document]
     said = [b"x\n" + part for part in parts[1:]]
     kept = [("serve and keep", serve, keep, parts[1:]),
-            ("serve those who join", serve, joins, said)] if name == "messages" else []
+            ("serve those who join", serve, joins, said),
+            ("judge a bundle", run, [program, "judge", "-"], b"---\n".join(parts)),
+            ("check against a bundle", run, [program, "check", report, "-"], b"---\n".join(parts)),
+            ("explore a bundle", run, [program, "explore", "-"], b"---\n".join(parts))] if name == "messages" else []
     return [("judge", run, judge, b""), ("judge by two workers", run, [*judge, "--workers", "2"], b""), beyond,
             ("a bundle", run, [program], b"---\n".join(parts)),
             ("check", run, [program, "check", document, report, *streams], b""),

@@ -123,6 +123,8 @@ def judge(place, case, document, streams, end):
         place.expect("as a bundle" + way, place.run([], bundle), status, report)
         if bundle.endswith(end) and not bundle.endswith(b"---" + end):
             place.expect("as a bundle without its last LF" + way, place.run([], bundle[:-1]), status, report)
+        if streams:
+            place.expect("judge -" + way, place.run(["judge", "-"], bundle), status, report)
     orders = [names, names[::-1]] if case.get("any_order") else [names]
     for order in orders if names else []:
         for workers in ([], *(["--workers", count] for count in ("2", "3", "16"))):

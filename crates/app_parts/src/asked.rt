@@ -1,4 +1,6 @@
 //! Whether the arguments ask for the bundle on the input.
+ghost use Rattle.std.specs.Prelude.{◌≡◌, IfOk, false};
+
 use app_arguments::{Request, SessionNames, parse};
 use clap::error::ErrorKind;
 use std::alloc::{AllocError, Global};
@@ -101,7 +103,9 @@ fn move_input(arguments: &mut Vec<String>) -> Result<(), AllocError> {
 ///
 /// # Errors
 /// Out of memory.
-pub fn find_bundle(alloc: Global, arguments: Vec<String>) -> Result<Bundled, AllocError> {
+pub fn find_bundle(alloc: Global, arguments: Vec<String>) -> Result<Bundled, AllocError>
+    ensures { IfOk result (λ found. found.is_asked ≡ false → found.arguments.items ≡ arguments.items) }
+{
     let mut arguments = arguments;
     if !arguments.iter().any(|argument| argument.as_str() == INPUT) {
         return Ok(Bundled {
