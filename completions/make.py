@@ -45,6 +45,10 @@ VALUES = {
 }
 # What the environment may have: that is said at the end of the program's help too.
 VARIABLES = {"MONITOR_EXPLAIN": "If it is 1, the same is explained as with --explain; each other value is as none"}
+# What the program takes before the arguments are parsed, so no help says it.
+INPUT = """With - in the place of SPEC and no STREAM, `judge`, `check`, `draw` and `explore` read a bundle from the \
+standard input, with all of their options: the session document, and before each stream a line ---. Else a file that \
+is named - is the standard input."""
 # The option that is taken out of the arguments before they are parsed, so no list of options has it: that of the program
 # and of each command get it.
 ANYWHERE = (None, "max-time", "SECONDS", "End with status 6 if the run takes longer than so many seconds, 1 to 604800")
@@ -291,6 +295,7 @@ monitor \\- judges predicates on a distributed computation
         text += "".join(roff_option(option) for option in one.options)
         text += "".join(roff_paragraph(part) for part in one.after)
     text += ".SH OPTIONS\n" + "".join(roff_option(option) for option in top.options)
+    text += f".SH STANDARD INPUT\n{roff(INPUT)}\n"
     text += ".SH ENVIRONMENT\n" + "".join(f".TP\n\\fB{name}\\fR\n{roff(said)}\n" for name, said in VARIABLES.items())
     text += ".SH EXIT STATUS\n" + "".join(f".TP\n{number}\n{roff(said)}\n" for number, said in top.statuses)
     return text

@@ -1,5 +1,5 @@
-//! The program `monitor`: hands its arguments, its streams, the system's files and its network to `pd_cli`,
-//! which runs it.
+//! The program `monitor`: hands its arguments, its streams, the system's files and its network to `pd_cli`, which runs
+//! it. The parts of a bundle on the input that a command asks for are files too.
 #![tactic(auto)]
 
 ghost use Rattle.std.specs.Prelude.{◌≡◌, false};
