@@ -5,7 +5,7 @@
 //! - `part_files`: the parts by their names, beside other files
 //! - `asked`: whether the arguments ask for the bundle on the input
 //! - `input`: what a run is given: the arguments, the parts, and what is left of the input
-//! - `unread`: reports that a bundle can't be read
+//! - `unread`: reports that a bundle can't be read, or is none
 #![tactic(auto)]
 
 mod asked;
@@ -20,4 +20,4 @@ pub use input::{Given, read_input};
 pub use part_file::PartFile;
 pub use part_files::PartFiles;
 pub use parts::Parts;
-pub use unread::report_unread;
+pub use unread::{report_undivided, report_unread};

@@ -5,7 +5,7 @@ ghost use Rattle.def_judgement.specs.Writes.{IsBrokenOff, IsTooLong, Source};
 ghost use Rattle.read_bundle.specs.PartsRead.{HasReadPart};
 ghost use Rattle.read_bundle.specs.Steps.{HasCut};
 ghost use Rattle.read_bundle.specs.declared.fault.BundleFault.TheVariants as faults;
-ghost use Rattle.std.specs.Prelude.{◌≡◌, ◌++◌, Err, IfOk, List, ℕ, OnOk, [], drop, false, length, map, option_map, string_bytes};
+ghost use Rattle.std.specs.Prelude.{◌≡◌, ◌++◌, ◌↔◌, Err, IfOk, IsTrue, List, ℕ, OnOk, [], drop, false, length, map, option_map, string_bytes};
 
 use def_format::STREAM_COUNT_LIMIT;
 use pd_gather::ByteSource;
@@ -123,6 +123,13 @@ impl Parts {
         Parts {
             parts: Vec::new(alloc),
         }
+    }
+
+    /// Whether there is the document alone: the bundle has no separator.
+    pub fn is_document_alone(&self) -> bool
+        ensures { IsTrue result ↔ (length self.now.parts.items ≡ 1) }
+    {
+        self.parts.len() == 1
     }
 
     /// The bytes of the part of this name, if there is one.

@@ -6,7 +6,9 @@ ghost use Rattle.std.specs.Prelude.{◌≡◌, false};
 
 use app_door::Retried;
 use app_host::{FileSource, Network};
-use app_parts::{Bundled, Given, PartFiles, find_bundle, read_input, report_unread};
+use app_parts::{
+    Bundled, Given, PartFiles, find_bundle, read_input, report_undivided, report_unread,
+};
 use app_progress::{Cleared, Limited, Screen, ShownFile, ShownFiles, TimedRun};
 use pd_gather::ByteSource;
 use std::alloc::Global;
@@ -175,6 +177,9 @@ fn run_asked<
         parts,
         input,
     } = given;
+    if parts.is_document_alone() {
+        return report_undivided(alloc, explain, errors);
+    }
     let files = PartFiles::new(files, &parts);
     pd_cli::run(
         rt, &files, network, alloc, arguments, input, explain, output, errors,
