@@ -17,7 +17,7 @@ class Browser {
   constructor() {
     this.process = spawn(CHROMIUM, ["--headless=new", "--no-sandbox", "--disable-gpu", "--disable-dev-shm-usage",
       "--no-first-run", "--user-data-dir=" + path.join(folder, "profile"), "--remote-debugging-pipe", "about:blank"],
-      { stdio: ["ignore", "ignore", "ignore", "pipe", "pipe"] });
+      { stdio: ["ignore", "ignore", "ignore", "pipe", "pipe"], detached: true });
     this.waiting = new Map();
     this.heard = new Map();
     this.next = 0;
@@ -52,9 +52,9 @@ let browser = null;
 test.before(() => { browser = new Browser(); });
 test.after(async () => {
   const exited = new Promise((resolve) => browser.process.once("exit", resolve));
-  browser.process.kill("SIGKILL");
+  // With all that it started, which would write to its folder for a while.
+  process.kill(-browser.process.pid, "SIGKILL");
   await exited;
-  // The processes that it started end a moment later, and write to its folder until then.
   fs.rmSync(folder, { recursive: true, force: true, maxRetries: 20, retryDelay: 50 });
 });
 
