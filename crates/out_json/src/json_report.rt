@@ -15,8 +15,12 @@ use std::alloc::{AllocError, Global};
 /// The version of this format.
 const FORMAT: u64 = 1;
 
-/// A report as a JSON value.
-fn report_value(alloc: Global, names: &Names, report: &Report) -> Result<Value, AllocError>
+/// A report as a JSON value. The names are those of the session's processes, to which the counts of cuts belong; of a
+/// document that is refused there are none.
+///
+/// # Errors
+/// Out of memory.
+pub fn report_value(alloc: Global, names: &Names, report: &Report) -> Result<Value, AllocError>
     ensures { IfOk result (λ value. view value ≡ json_of names.now (report_view report.now)) }
 {
     let text = report_string(alloc, report)?;

@@ -4,7 +4,7 @@
 //! `report` has the report's own text, so no program has to put that together again. Of lawful reports, the two texts
 //! determine each other.
 //!
-//! - `json_report`: a report's JSON text
+//! - `json_report`: a report as a JSON value, and its text
 //! - `answers`: the answers, as JSON values
 //! - `runs`: an observation's events, by how many of one process follow one another
 //! - `refusals`: why a session is refused, as a JSON value
@@ -25,7 +25,7 @@ ghost use Rattle.out_json.specs.ReportLaws.{
   TextDeterminesJson,
 };
 
-pub use json_report::json_text;
+pub use json_report::{json_text, report_value};
 
 /// The field `report` of a report's JSON object has the report's text, and of lawful reports the JSON text and the
 /// report's text determine each other.
