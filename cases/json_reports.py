@@ -3,7 +3,8 @@
 it stands, and with a width of 1, --beyond-width and --fail-on, and compares that with what `judge` writes without it.
 It has to be one line, in the one form that docs/SPECIFICATION.md gives it, with the report's text in its field `report`
 and with the same status; and its other fields have to make that text again: the cut by its processes, the path by its
-runs, the refusal.
+runs, the refusal. Then all sessions in UTF-8 are judged by one `batch` for each of these ways, which has to give each of
+them the same object and status.
 
 With --schema it is looked instead whether docs/report.schema.json takes each line, of a path its first 50 runs, and
 refuses faults that are put into short ones. That needs the module jsonschema, Debian's python3-jsonschema, which is
@@ -19,6 +20,7 @@ import glob
 import itertools
 import json
 import os
+import subprocess
 import sys
 import tempfile
 
@@ -183,6 +185,35 @@ def tried(program, look_by, session):
     return kinds, wrong
 
 
+def lines_of(all_sessions):
+    """The sessions in UTF-8, and the lines that hold them for `batch`."""
+    for session in all_sessions:
+        try:
+            document, *streams = [data(value).decode() for value in (session[1], *session[2])]
+        except UnicodeDecodeError:
+            continue
+        yield session, json.dumps({"id": session[0], "document": document, "streams": streams})
+
+
+def judged_by_batch(program, all_sessions):
+    """How many sessions `batch` judges, and what differs from what `judge` writes of each alone."""
+    held_lines, wrong = list(lines_of(all_sessions)), []
+    text = "".join(line + "\n" for _, line in held_lines).encode()
+    with concurrent.futures.ThreadPoolExecutor(os.cpu_count()) as pool:
+        alone = list(pool.map(lambda held: [as_json for _, _, as_json in reports(program, held[0], False)], held_lines))
+    for number, way in enumerate(WAYS):
+        written = subprocess.run([program, "batch", *way, "--jobs", "4"], input=text, capture_output=True, check=False)
+        answers = written.stdout.splitlines()
+        if len(answers) != len(held_lines) or written.stderr:
+            wrong.append(f"batch {' '.join(way)}: {len(answers)} lines of {len(held_lines)}, {written.stderr[:200]}")
+        for (session, _), answer, (status, report, _) in zip(held_lines, answers, [ways[number] for ways in alone]):
+            wanted = b'{"id":%b,"report":%b,"status":%d}' % (
+                json.dumps(session[0], ensure_ascii=False).encode(), report.rstrip(b"\n"), status)
+            if answer != wanted:
+                wrong.append(f"{session[0]}: batch {' '.join(way)}: {answer[:300]}, and wanted is {wanted[:300]}")
+    return len(held_lines), wrong
+
+
 def main():
     parser = argparse.ArgumentParser(description=__doc__, formatter_class=argparse.RawDescriptionHelpFormatter)
     parser.add_argument("program", nargs="?", default=os.path.join(TOP, "crates", "monitor", "out", "monitor"))
@@ -198,9 +229,13 @@ def main():
             kinds.update(found)
             wrong += faults
     wrong += [f"no report has the answer or the refusal: {kind}" for kind in sorted(KINDS - set(kinds))]
+    by_batch = ""
+    if not given.schema:
+        count, faults = judged_by_batch(program, all_sessions)
+        by_batch, wrong = f", {count} of them by batch too", wrong + faults
     for fault in wrong:
         print(f"reports as JSON: {fault}")
-    print(f"reports as JSON: {len(all_sessions)} sessions, each in {len(WAYS)} ways, {len(wrong)} wrong")
+    print(f"reports as JSON: {len(all_sessions)} sessions, each in {len(WAYS)} ways{by_batch}, {len(wrong)} wrong")
     sys.exit(1 if wrong else 0)
 
 

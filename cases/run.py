@@ -26,7 +26,7 @@ SESSION = {"name", "document", "streams", "report", "report_beyond_width", "stat
 # What a run may say of its output and of its errors, and how that is compared.
 SAYS = {"output": bytes.__eq__, "output_begins": bytes.startswith, "output_has": bytes.__contains__,
         "output_ends": bytes.endswith, "errors": bytes.__eq__, "errors_begin": bytes.startswith}
-RUN = {"name", "words", "input", "files", "unreadable", "status", "room", "full", *SAYS}
+RUN = {"name", "words", "input", "files", "unreadable", "status", "room", "full", "holds", "written", *SAYS}
 
 
 def data(value):
@@ -173,6 +173,21 @@ def run_once(place, case):
                 differ(f"the {key.replace('_', ' ')}", data(value), given)
     if status != case.get("status", 0):
         differ("the status", str(case.get("status", 0)).encode(), str(status).encode())
+    see_files(place, case)
+
+
+def see_files(place, case):
+    """Looks at the files that a run leaves: the names in folders, and what is written."""
+    for folder, names in case.get("holds", {}).items():
+        found = sorted(os.listdir(os.path.join(place.folder, folder)))
+        if found != sorted(names):
+            differ(f"the files in {folder}", "\n".join(sorted(names)).encode(), "\n".join(found).encode())
+    for name, words in case.get("written", {}).items():
+        with open(os.path.join(place.folder, name), "rb") as file:
+            given = file.read()
+        wanted = place.run([data(word) for word in words])[1] if isinstance(words, list) else data(words)
+        if given != wanted:
+            differ(f"the file {name}", wanted, given)
 
 
 def tried(program, kind, case):

@@ -31,7 +31,7 @@ _monitor() {
   COMPREPLY=()
   [ -n "$skip" ] && return
   if [ "${#words[@]}" -le 2 ]; then
-    COMPREPLY=($(compgen -W 'judge check draw serve explore test infer help --explain --max-time -h --help -V --version' -- "$current"))
+    COMPREPLY=($(compgen -W 'judge check draw serve explore test infer batch bundle merge help --explain --max-time -h --help -V --version' -- "$current"))
     return
   fi
   case "$previous" in
@@ -87,6 +87,11 @@ _monitor() {
       return ;;
     --link)
       return ;;
+    --jobs)
+      COMPREPLY=($(compgen -W '1 2 3 4 5 6 7 8 9 10 11 12 13 14 15 16' -- "$current"))
+      return ;;
+    --pages)
+      return ;;
   esac
   case "$command" in
     judge) options='--explain --max-time --width --ask --workers --beyond-width --fail-on --format --notes -h --help' ;;
@@ -94,10 +99,13 @@ _monitor() {
     draw) options='--explain --max-time --width --ask --beyond-width --predicate --evidence --from --all --notes -h --help' ;;
     serve) options='--explain --max-time --width --ask --port --bind --socket --port-file --watchers --wait --join-first --token --token-file --idle --keep --workers --beyond-width --fail-on -h --help' ;;
     explore) options='--explain --max-time --width --ask --workers --beyond-width --fail-on --never --always --sometimes --notes --link -h --help' ;;
-    test) options='--explain --max-time --width --ask --workers --never --always --sometimes -h --help' ;;
+    test) options='--explain --max-time --width --ask --workers --never --always --sometimes --jobs --pages -h --help' ;;
     infer) options='--explain --max-time -h --help' ;;
+    batch) options='--explain --max-time --width --ask --workers --beyond-width --fail-on --jobs -h --help' ;;
+    bundle) options='--explain --max-time -h --help' ;;
+    merge) options='--explain --max-time -h --help' ;;
     help)
-      COMPREPLY=($(compgen -W 'judge check draw serve explore test infer help' -- "$current"))
+      COMPREPLY=($(compgen -W 'judge check draw serve explore test infer batch bundle merge help' -- "$current"))
       return ;;
     *) return ;;
   esac

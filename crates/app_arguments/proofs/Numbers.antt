@@ -3,7 +3,7 @@ use Rattle.std.proofs.Common.{◌≡◌, ◌∙◌, ℕ, List, Option, None, Som
 use Rattle.std.specs.Prelude.{IfSome}
 use Rattle.std.specs.Str.Parse.{digits_value, without_leading_plus}
 use Rattle.clap.specs.Walk.{Row, Text, first_of}
-use Rattle.app_arguments.specs.Arguments.{HasWorkers, IsNumberText, IsPlace, IsWorkers, MayNameNumber, NamesNumber, NamesWorkers}
+use Rattle.app_arguments.specs.Arguments.{HasThreads, IsNumberText, IsPlace, IsWorkers, MayNameNumber, NamesNumber, NamesThreads}
 use Rattle.app_arguments.specs.Places.{Place, OnPort, OnSocket}
 use Rattle.app_arguments.specs.Views.{Finds}
 use Rattle.app_arguments.specs.declared.workers.Workers.{Workers}
@@ -45,14 +45,14 @@ pub some_number : (rows : List Row) (id : Text) (r : Option ℕ) (n : ℕ) → M
     → NamesNumber rows id n
 some_number rows id r n names is = subst (MayNameNumber rows id) is names
 
--- workers that were made of the option's number, or none if there can't be so many
-pub workers_found : (rows : List Row) (n : ℕ) → NamesNumber rows (codes "WORKERS") n → (r : Option Workers)
+-- threads that were made of the option's number, or none if there can't be so many
+pub threads_found : (rows : List Row) (id : Text) (n : ℕ) → NamesNumber rows id n → (r : Option Workers)
     → IfSome r (λ workers. workers.number ≡ n) → IfSome r (λ workers. IsWorkers workers.number)
-    → (r ≡ None → ¬ IsWorkers n) → Finds (NamesWorkers rows) (λ (workers : Workers). workers.number) r
-workers_found rows n named None same in_range none = λ m names.
-    none refl (subst IsWorkers (one_number rows (codes "WORKERS") m n names.0 named) names.1)
-workers_found rows n named (Some workers) same in_range none =
-    (subst (λ (m : ℕ). NamesNumber rows (codes "WORKERS") m) (sym same) named, in_range)
+    → (r ≡ None → ¬ IsWorkers n) → Finds (NamesThreads rows id) (λ (workers : Workers). workers.number) r
+threads_found rows id n named None same in_range none = λ m names.
+    none refl (subst IsWorkers (one_number rows id m n names.0 named) names.1)
+threads_found rows id n named (Some workers) same in_range none =
+    (subst (λ (m : ℕ). NamesNumber rows id m) (sym same) named, in_range)
 
 -- what isn't found is nowhere
 pub finds_none : {A B : Type 0} (P : B → Type 0) (view : A → B) (found : Option A) → Finds P view found → found ≡ None
@@ -60,11 +60,11 @@ pub finds_none : {A B : Type 0} (P : B → Type 0) (view : A → B) (found : Opt
 finds_none P view None none is = none
 finds_none P view (Some a) some is = cc
 
--- there is no number of workers
-pub no_workers : (rows : List Row) (r : Option Workers)
-    → Finds (NamesWorkers rows) (λ (workers : Workers). workers.number) r → r ≡ None → ¬ HasWorkers rows
-no_workers rows r found is names =
-    finds_none (NamesWorkers rows) (λ (workers : Workers). workers.number) r found is names.0
+-- there is no number of threads
+pub no_threads : (rows : List Row) (id : Text) (r : Option Workers)
+    → Finds (NamesThreads rows id) (λ (workers : Workers). workers.number) r → r ≡ None → ¬ HasThreads rows id
+no_threads rows id r found is names =
+    finds_none (NamesThreads rows id) (λ (workers : Workers). workers.number) r found is names.0
     (names.1, (names.2, names.3))
 
 -- the number of an option that has none

@@ -7,13 +7,13 @@ use Rattle.clap.specs.Words.{Row, Text, all_of, first_of}
 use Rattle.def_format.specs.Documents.{Options}
 use Rattle.judge_runs.specs.Wishes.{Condition}
 use Rattle.out_picture.specs.Scopes.{Scope}
-use Rattle.app_arguments.specs.Arguments.{HasWorkers, NamesAllOptions, NamesBy, NamesJudging, NamesOptions, NamesPage, NamesScope, NamesService, NamesSession, NamesTest}
+use Rattle.app_arguments.specs.Arguments.{HasJobs, HasWorkers, NamesAllOptions, NamesBy, NamesJudging, NamesOptions, NamesPage, NamesScope, NamesService, NamesSession, NamesTest}
 use Rattle.app_arguments.specs.Views.{FindsJudgement, FindsService, NamesJudgement}
 use Rattle.app_arguments.specs.declared.request.Judgement.{Judgement}
 use Rattle.app_arguments.specs.declared.request.Service.{Service}
 use Rattle.app_arguments.specs.Formats.{Format, format_text}
 use Rattle.app_arguments.specs.Places.{Place}
-use Rattle.app_arguments.specs.Statuses.{PageOptions, Request, JudgeInput, JudgeFiles, CheckFiles, DrawFiles, ServeStreams, ExploreFiles, TestRuns, InferDocument, ShowHelp, ShowVersion, Unclear}
+use Rattle.app_arguments.specs.Statuses.{PageOptions, Request, JudgeInput, JudgeFiles, CheckFiles, DrawFiles, ServeStreams, ExploreFiles, TestRuns, InferDocument, JudgeLines, BundleRuns, MergeLines, ShowHelp, ShowVersion, Unclear}
 
 differ : (a b : Text) → bytes_eq a b ≡ false → b ≡ a → ⊥
 differ a b other same = true≢false (sym ((bytes_eq-Decides a b).1 (sym same)) ∙ other)
@@ -37,6 +37,11 @@ judge_lacks rows none (TestRuns options wishes runs) names =
     differ (codes "test") (codes "judge") refl names.0
 judge_lacks rows none (InferDocument streams) names =
     differ (codes "infer") (codes "judge") refl names.0
+judge_lacks rows none (JudgeLines options fail_on) names =
+    differ (codes "batch") (codes "judge") refl names.0
+judge_lacks rows none (BundleRuns runs) names =
+    differ (codes "bundle") (codes "judge") refl names.0
+judge_lacks rows none MergeLines names = differ (codes "merge") (codes "judge") refl names
 judge_lacks rows none JudgeInput names = names
 judge_lacks rows none ShowHelp names = names
 judge_lacks rows none ShowVersion names = names
@@ -61,6 +66,11 @@ check_lacks rows none (TestRuns options wishes runs) names =
     differ (codes "test") (codes "check") refl names.0
 check_lacks rows none (InferDocument streams) names =
     differ (codes "infer") (codes "check") refl names.0
+check_lacks rows none (JudgeLines options fail_on) names =
+    differ (codes "batch") (codes "check") refl names.0
+check_lacks rows none (BundleRuns runs) names =
+    differ (codes "bundle") (codes "check") refl names.0
+check_lacks rows none MergeLines names = differ (codes "merge") (codes "check") refl names
 check_lacks rows none JudgeInput names = names
 check_lacks rows none ShowHelp names = names
 check_lacks rows none ShowVersion names = names
@@ -84,6 +94,11 @@ draw_lacks rows none (TestRuns options wishes runs) names =
     differ (codes "test") (codes "draw") refl names.0
 draw_lacks rows none (InferDocument streams) names =
     differ (codes "infer") (codes "draw") refl names.0
+draw_lacks rows none (JudgeLines options fail_on) names =
+    differ (codes "batch") (codes "draw") refl names.0
+draw_lacks rows none (BundleRuns runs) names =
+    differ (codes "bundle") (codes "draw") refl names.0
+draw_lacks rows none MergeLines names = differ (codes "merge") (codes "draw") refl names
 draw_lacks rows none JudgeInput names = names
 draw_lacks rows none ShowHelp names = names
 draw_lacks rows none ShowVersion names = names
@@ -108,6 +123,11 @@ serve_lacks rows none (TestRuns options wishes runs) names =
     differ (codes "test") (codes "serve") refl names.0
 serve_lacks rows none (InferDocument streams) names =
     differ (codes "infer") (codes "serve") refl names.0
+serve_lacks rows none (JudgeLines options fail_on) names =
+    differ (codes "batch") (codes "serve") refl names.0
+serve_lacks rows none (BundleRuns runs) names =
+    differ (codes "bundle") (codes "serve") refl names.0
+serve_lacks rows none MergeLines names = differ (codes "merge") (codes "serve") refl names
 serve_lacks rows none JudgeInput names = names
 serve_lacks rows none ShowHelp names = names
 serve_lacks rows none ShowVersion names = names
@@ -132,6 +152,11 @@ explore_lacks rows none (TestRuns options wishes runs) names =
     differ (codes "test") (codes "explore") refl names.0
 explore_lacks rows none (InferDocument streams) names =
     differ (codes "infer") (codes "explore") refl names.0
+explore_lacks rows none (JudgeLines options fail_on) names =
+    differ (codes "batch") (codes "explore") refl names.0
+explore_lacks rows none (BundleRuns runs) names =
+    differ (codes "bundle") (codes "explore") refl names.0
+explore_lacks rows none MergeLines names = differ (codes "merge") (codes "explore") refl names
 explore_lacks rows none JudgeInput names = names
 explore_lacks rows none ShowHelp names = names
 explore_lacks rows none ShowVersion names = names
@@ -154,6 +179,11 @@ test_lacks rows none (ExploreFiles options fail_on page document streams) names 
 test_lacks rows none (TestRuns options wishes runs) names = none options wishes runs names.1
 test_lacks rows none (InferDocument streams) names =
     differ (codes "infer") (codes "test") refl names.0
+test_lacks rows none (JudgeLines options fail_on) names =
+    differ (codes "batch") (codes "test") refl names.0
+test_lacks rows none (BundleRuns runs) names =
+    differ (codes "bundle") (codes "test") refl names.0
+test_lacks rows none MergeLines names = differ (codes "merge") (codes "test") refl names
 test_lacks rows none JudgeInput names = names
 test_lacks rows none ShowHelp names = names
 test_lacks rows none ShowVersion names = names
@@ -174,34 +204,96 @@ infer_lacks rows none (ExploreFiles options fail_on page document streams) names
 infer_lacks rows none (TestRuns options wishes runs) names =
     differ (codes "test") (codes "infer") refl names.0
 infer_lacks rows none (InferDocument streams) names = none streams names.1
+infer_lacks rows none (JudgeLines options fail_on) names =
+    differ (codes "batch") (codes "infer") refl names.0
+infer_lacks rows none (BundleRuns runs) names =
+    differ (codes "bundle") (codes "infer") refl names.0
+infer_lacks rows none MergeLines names = differ (codes "merge") (codes "infer") refl names
 infer_lacks rows none JudgeInput names = names
 infer_lacks rows none ShowHelp names = names
 infer_lacks rows none ShowVersion names = names
 infer_lacks rows none Unclear names = names
 
+pub batch_lacks : (rows : List Row) → ((options : Options) (fail_on : List Condition)
+    → ¬ (NamesJudging rows options fail_on × HasJobs rows))
+    → (request : Request) → ¬ NamesBy (codes "batch") rows request
+batch_lacks rows none (JudgeFiles options fail_on format document streams) names =
+    differ (codes "judge") (codes "batch") refl names.0
+batch_lacks rows none (CheckFiles options document report streams) names =
+    differ (codes "check") (codes "batch") refl names.0
+batch_lacks rows none (DrawFiles options scope document files) names =
+    differ (codes "draw") (codes "batch") refl names.0
+batch_lacks rows none (ServeStreams options fail_on document place port_file watchers wait keep) names =
+    differ (codes "serve") (codes "batch") refl names.0
+batch_lacks rows none (ExploreFiles options fail_on page document streams) names =
+    differ (codes "explore") (codes "batch") refl names.0
+batch_lacks rows none (TestRuns options wishes runs) names =
+    differ (codes "test") (codes "batch") refl names.0
+batch_lacks rows none (InferDocument streams) names =
+    differ (codes "infer") (codes "batch") refl names.0
+batch_lacks rows none (JudgeLines options fail_on) names = none options fail_on (names.1, names.2)
+batch_lacks rows none (BundleRuns runs) names =
+    differ (codes "bundle") (codes "batch") refl names.0
+batch_lacks rows none MergeLines names = differ (codes "merge") (codes "batch") refl names
+batch_lacks rows none JudgeInput names = names
+batch_lacks rows none ShowHelp names = names
+batch_lacks rows none ShowVersion names = names
+batch_lacks rows none Unclear names = names
+
+pub bundle_lacks : (rows : List Row) → ((runs : List Text) → ¬ (all_of (codes "RUN") rows ≡ Some runs))
+    → (request : Request) → ¬ NamesBy (codes "bundle") rows request
+bundle_lacks rows none (JudgeFiles options fail_on format document streams) names =
+    differ (codes "judge") (codes "bundle") refl names.0
+bundle_lacks rows none (CheckFiles options document report streams) names =
+    differ (codes "check") (codes "bundle") refl names.0
+bundle_lacks rows none (DrawFiles options scope document files) names =
+    differ (codes "draw") (codes "bundle") refl names.0
+bundle_lacks rows none (ServeStreams options fail_on document place port_file watchers wait keep) names =
+    differ (codes "serve") (codes "bundle") refl names.0
+bundle_lacks rows none (ExploreFiles options fail_on page document streams) names =
+    differ (codes "explore") (codes "bundle") refl names.0
+bundle_lacks rows none (TestRuns options wishes runs) names =
+    differ (codes "test") (codes "bundle") refl names.0
+bundle_lacks rows none (InferDocument streams) names =
+    differ (codes "infer") (codes "bundle") refl names.0
+bundle_lacks rows none (JudgeLines options fail_on) names =
+    differ (codes "batch") (codes "bundle") refl names.0
+bundle_lacks rows none (BundleRuns runs) names = none runs names.1
+bundle_lacks rows none MergeLines names = differ (codes "merge") (codes "bundle") refl names
+bundle_lacks rows none JudgeInput names = names
+bundle_lacks rows none ShowHelp names = names
+bundle_lacks rows none ShowVersion names = names
+bundle_lacks rows none Unclear names = names
+
 -- a word that is no command's names nothing
 pub no_command : (command : Text) (rows : List Row) → ¬ (command ≡ codes "judge") → ¬ (command ≡ codes "check")
     → ¬ (command ≡ codes "draw") → ¬ (command ≡ codes "serve") → ¬ (command ≡ codes "explore")
-    → ¬ (command ≡ codes "test") → ¬ (command ≡ codes "infer")
+    → ¬ (command ≡ codes "test") → ¬ (command ≡ codes "infer") → ¬ (command ≡ codes "batch")
+    → ¬ (command ≡ codes "bundle") → ¬ (command ≡ codes "merge")
     → (request : Request) → ¬ NamesBy command rows request
-no_command command rows a b c d e f g (JudgeFiles options fail_on format document streams) names =
+no_command command rows a b c d e f g h i j (JudgeFiles options fail_on format document streams) names =
     a names.0
-no_command command rows a b c d e f g (CheckFiles options document report streams) names =
+no_command command rows a b c d e f g h i j (CheckFiles options document report streams) names =
     b names.0
-no_command command rows a b c d e f g (DrawFiles options scope document files) names =
+no_command command rows a b c d e f g h i j (DrawFiles options scope document files) names =
     c names.0
-no_command command rows a b c d e f g (ServeStreams options fail_on document place port_file watchers wait keep) names =
-    d names.0
-no_command command rows a b c d e f g (ExploreFiles options fail_on page document streams) names =
+no_command command rows a b c d e f g h i j
+    (ServeStreams options fail_on document place port_file watchers wait keep) names = d names.0
+no_command command rows a b c d e f g h i j (ExploreFiles options fail_on page document streams) names =
     e names.0
-no_command command rows a b c d e f g (TestRuns options wishes runs) names =
+no_command command rows a b c d e f g h i j (TestRuns options wishes runs) names =
     f names.0
-no_command command rows a b c d e f g (InferDocument streams) names =
+no_command command rows a b c d e f g h i j (InferDocument streams) names =
     g names.0
-no_command command rows a b c d e f g JudgeInput names = names
-no_command command rows a b c d e f g ShowHelp names = names
-no_command command rows a b c d e f g ShowVersion names = names
-no_command command rows a b c d e f g Unclear names = names
+no_command command rows a b c d e f g h i j (JudgeLines options fail_on) names =
+    h names.0
+no_command command rows a b c d e f g h i j (BundleRuns runs) names =
+    i names.0
+no_command command rows a b c d e f g h i j MergeLines names = j names
+no_command command rows a b c d e f g h i j JudgeInput names = names
+no_command command rows a b c d e f g h i j ShowHelp names = names
+no_command command rows a b c d e f g h i j ShowVersion names = names
+no_command command rows a b c d e f g h i j Unclear names = names
 
 -- a judgement of files that isn't found
 pub no_judgement : (rows : List Row) (found : Option Judgement) → FindsJudgement rows found → found ≡ None

@@ -21,7 +21,7 @@ use Rattle.out_picture.specs.declared.extent.Extent.{Extent}
 use Rattle.out_picture.specs.declared.extent.Extent.TheVariants.{Around, From, All}
 use Rattle.out_picture.specs.declared.kind.Kind.{Kind}
 use Rattle.out_picture.specs.declared.kind.Kind.TheVariants.{Possibly, Definitely}
-use Rattle.app_arguments.specs.Statuses.{PageOptions, Request, JudgeInput, JudgeFiles, CheckFiles, DrawFiles, ServeStreams, ExploreFiles, TestRuns, InferDocument, ShowHelp, ShowVersion, Unclear}
+use Rattle.app_arguments.specs.Statuses.{PageOptions, Request, JudgeInput, JudgeFiles, CheckFiles, DrawFiles, ServeStreams, ExploreFiles, TestRuns, InferDocument, JudgeLines, BundleRuns, MergeLines, ShowHelp, ShowVersion, Unclear}
 
 -- ---- the values of options
 
@@ -43,10 +43,17 @@ SaysFlag rows id is_given = IsTrue is_given ↔ (one_of id rows ≡ Some (codes 
 abbrev pub texts_of : List Row → (id : Text) → List Text
 texts_of rows id = unwrap_or (all_of id rows) []
 
--- There is a number of workers, and not too many. How many there are changes nothing of what is asked for.
+-- The option of this id says how many threads share the work: some, and not too many. How many there are changes
+-- nothing of what is asked for.
+abbrev pub HasThreads : List Row → (id : Text) → Type 0
+HasThreads rows id = (threads : ℕ) × NamesNumber rows id threads × (1 ≤ threads) × (threads ≤ worker_limit)
+
 abbrev pub HasWorkers : List Row → Type 0
-HasWorkers rows =
-    (workers : ℕ) × NamesNumber rows (codes "WORKERS") workers × (1 ≤ workers) × (workers ≤ worker_limit)
+HasWorkers rows = HasThreads rows (codes "WORKERS")
+
+-- as many runs or sessions are judged side by side
+abbrev pub HasJobs : List Row → Type 0
+HasJobs rows = HasThreads rows (codes "JOBS")
 
 -- what is asked beside the document, but for whether what is decided whatever the width is
 pub record NamesOptions (rows : List Row) (options : Options) : Type 0 where
@@ -138,6 +145,7 @@ pub record NamesTest (rows : List Row) (runs : List Text) (options : Options) (w
   -- what is decided whatever the width is always asked for
   pub any_width : options.beyond_width ≡ true
   pub some_workers : HasWorkers rows
+  pub some_jobs : HasJobs rows
   pub are_wishes : wishes ≡ or_none_ever (wishes_in rows)
 
 -- ---- what is asked for
@@ -161,6 +169,10 @@ NamesBy command rows (ExploreFiles options fail_on page document streams) =
     × NamesJudging rows options fail_on × NamesPage rows page
 NamesBy command rows (TestRuns options wishes runs) = (command ≡ codes "test") × NamesTest rows runs options wishes
 NamesBy command rows (InferDocument streams) = (command ≡ codes "infer") × (all_of (codes "STREAM") rows ≡ Some streams)
+NamesBy command rows (JudgeLines options fail_on) =
+    (command ≡ codes "batch") × NamesJudging rows options fail_on × HasJobs rows
+NamesBy command rows (BundleRuns runs) = (command ≡ codes "bundle") × (all_of (codes "RUN") rows ≡ Some runs)
+NamesBy command rows MergeLines = command ≡ codes "merge"
 NamesBy command rows _ = ⊥
 
 -- What the arguments ask for. If the parser finds nothing wrong, it is what the rows name that it found of the command,
@@ -205,9 +217,9 @@ IsNumberText text n = ParsesUnsigned {E = ⊤} 64 10 text (Ok n)
 abbrev pub IsWorkers : ℕ → Type 0
 IsWorkers workers = (1 ≤ workers) × (workers ≤ worker_limit)
 
--- the number of workers
-abbrev pub NamesWorkers : List Row → (workers : ℕ) → Type 0
-NamesWorkers rows workers = NamesNumber rows (codes "WORKERS") workers × IsWorkers workers
+-- the number of threads that the option of this id names
+abbrev pub NamesThreads : List Row → (id : Text) → (threads : ℕ) → Type 0
+NamesThreads rows id threads = NamesNumber rows id threads × IsWorkers threads
 
 -- the text of an address of the internet protocol
 abbrev pub IsAddressText : Text → Type 0

@@ -65,9 +65,17 @@ on_document = placed (codes "SPEC") kinds.Name ∷ asking
 abbrev pub streams : Argument
 streams = placed (codes "STREAM") kinds.Names
 
+-- the folders of recorded runs
+abbrev pub runs : Argument
+runs = placed (codes "RUN") kinds.Names
+
 abbrev pub workers : Argument
 workers =
     record (option (codes "WORKERS") (codes "workers") (kinds.Number 1 worker_limit)) { default = Some (codes "1") }
+
+-- how many runs or sessions are judged side by side
+abbrev pub jobs : Argument
+jobs = record (option (codes "JOBS") (codes "jobs") (kinds.Number 1 worker_limit)) { default = Some (codes "1") }
 
 -- what is decided whatever the width is asked for too
 abbrev pub beyond_width : Argument
@@ -131,17 +139,28 @@ explore_arguments =
     ++ (notes ∷ option (codes "PATTERN") (codes "link") kinds.Text ∷ [])
 
 abbrev pub test_arguments : List Argument
-test_arguments = placed (codes "RUN") kinds.Names ∷ asking ++ (workers ∷ wishing)
+test_arguments =
+    runs ∷ asking ++ (workers ∷ wishing) ++ (jobs ∷ option (codes "FOLDER") (codes "pages") kinds.Text ∷ [])
 
 abbrev pub infer_arguments : List Argument
 infer_arguments = streams ∷ explain ∷ []
+
+abbrev pub batch_arguments : List Argument
+batch_arguments = asking ++ judging ++ (jobs ∷ [])
+
+abbrev pub bundle_arguments : List Argument
+bundle_arguments = runs ∷ explain ∷ []
+
+abbrev pub merge_arguments : List Argument
+merge_arguments = explain ∷ []
 
 -- the commands, by their names
 abbrev pub commands : List (Text × List Argument)
 commands =
     (codes "judge", judge_arguments) ∷ (codes "check", check_arguments) ∷ (codes "draw", draw_arguments)
     ∷ (codes "serve", serve_arguments) ∷ (codes "explore", explore_arguments) ∷ (codes "test", test_arguments)
-    ∷ (codes "infer", infer_arguments) ∷ []
+    ∷ (codes "infer", infer_arguments) ∷ (codes "batch", batch_arguments) ∷ (codes "bundle", bundle_arguments)
+    ∷ (codes "merge", merge_arguments) ∷ []
 
 -- ---- the command line
 

@@ -21,7 +21,7 @@ use Rattle.app_arguments.specs.declared.place.Place.TheVariants.{Port, Socket}
 use Rattle.app_arguments.specs.declared.request.Judgement.{Judgement}
 use Rattle.app_arguments.specs.declared.request.PageOptions.{PageOptions}
 use Rattle.app_arguments.specs.declared.request.Request.{Request}
-use Rattle.app_arguments.specs.declared.request.Request.TheVariants.{Bundle, Judge, Check, Draw, Serve, Explore, Test, Infer}
+use Rattle.app_arguments.specs.declared.request.Request.TheVariants.{Bundle, Judge, Check, Draw, Serve, Explore, Test, Infer, Batch, BundleRuns, Merge}
 use Rattle.app_arguments.specs.declared.request.Service.{Service}
 use Rattle.app_arguments.specs.declared.request.SessionNames.{SessionNames}
 use Rattle.app_arguments.specs.declared.table.Row as rows
@@ -87,6 +87,9 @@ request_view (Explore judgement page) =
 request_view (Test test) =
     asked.TestRuns (options_view test.options) (wishes_view test.wishes.items) (names_view test.runs.items)
 request_view (Infer streams) = asked.InferDocument (names_view streams.items)
+request_view (Batch batch) = asked.JudgeLines (options_view batch.options) (fail_on_view batch.fail_on)
+request_view (BundleRuns runs) = asked.BundleRuns (names_view runs.items)
+request_view Merge = asked.MergeLines
 
 -- the arguments ask for this
 abbrev pub IsAsked : List Text → Request → Type 0

@@ -2,7 +2,7 @@
 ghost use Rattle.clap.specs.Simple.{app_of, subcommand_of, subcommand_rows_of};
 ghost use Rattle.clap.specs.Values.{kind_of};
 ghost use Rattle.clap.specs.Walk.{Text, all_of, first_of};
-ghost use Rattle.app_arguments.specs.Arguments.{AreConditions, AreTaken, IsAddressText, IsNumberText, IsPlace, IsShownKind, IsToken, MayNameNumber, NamesAllOptions, NamesExtent, NamesNumber, NamesOptions, NamesPage, NamesScope, NamesService, NamesSession, NamesToken, NamesWorkers, SaysFlag, kind_text, texts_of, wishes_in};
+ghost use Rattle.app_arguments.specs.Arguments.{AreConditions, AreTaken, IsAddressText, IsNumberText, IsPlace, IsShownKind, IsToken, MayNameNumber, NamesAllOptions, NamesExtent, NamesNumber, NamesOptions, NamesPage, NamesScope, NamesService, NamesSession, NamesThreads, NamesToken, SaysFlag, kind_text, texts_of, wishes_in};
 ghost use Rattle.app_arguments.specs.ConditionViews.{fail_on_view};
 ghost use Rattle.app_arguments.specs.Formats.{format_text};
 ghost use Rattle.app_arguments.specs.Places as places;
@@ -20,7 +20,9 @@ use super::fail_on::FailOn;
 use super::format::Format;
 use super::help::{EXTENT_USAGE, FORMAT_USAGE, KIND_USAGE, LIST_USAGE, PLACE_USAGE, TOKEN_USAGE};
 use super::place::Place;
-use super::request::{Admission, Judgement, PageOptions, Request, Service, SessionNames, Test};
+use super::request::{
+    Admission, Batch, Judgement, PageOptions, Request, Service, SessionNames, Test,
+};
 use super::table::{PORT_LIMIT, TOKEN_LIMIT, WATCHER_LIMIT};
 use super::wishes::{named_wishes, or_none_ever};
 use super::workers::Workers;
@@ -97,14 +99,28 @@ fn flag_of(matches: &ArgMatches<'_>, id: &str) -> bool
     matches.get_one::<bool>(id).unwrap_or(false)
 }
 
-/// The number of workers, if it is one from 1 to 16.
-fn workers_of(matches: &ArgMatches<'_>) -> Option<Workers>
-    ensures { Finds (NamesWorkers (rows_in matches.now)) (λ workers. workers.number) result }
+/// The number of threads that the option of this id names, if it is one from 1 to 16.
+fn threads_of(matches: &ArgMatches<'_>, id: &str) -> Option<Workers>
+    ensures { Finds (NamesThreads (rows_in matches.now) id.now) (λ workers. workers.number) result }
 {
-    let Some(number) = number_of(matches, "WORKERS") else {
+    let Some(number) = number_of(matches, id) else {
         return None;
     };
     Workers::of(number)
+}
+
+/// The number of workers, if it is one from 1 to 16.
+fn workers_of(matches: &ArgMatches<'_>) -> Option<Workers>
+    ensures { Finds (NamesThreads (rows_in matches.now) (codes "WORKERS")) (λ workers. workers.number) result }
+{
+    threads_of(matches, "WORKERS")
+}
+
+/// How many runs or sessions are judged side by side, if it is a number from 1 to 16.
+fn jobs_of(matches: &ArgMatches<'_>) -> Option<Workers>
+    ensures { Finds (NamesThreads (rows_in matches.now) (codes "JOBS")) (λ jobs. jobs.number) result }
+{
+    threads_of(matches, "JOBS")
 }
 
 /// What is asked beside the document, and whether what is decided whatever the width is.
@@ -533,6 +549,9 @@ fn test_request<'a>(
     let Some(workers) = workers_of(matches) else {
         return Ok(None);
     };
+    let Some(jobs) = jobs_of(matches) else {
+        return Ok(None);
+    };
     let options = options_of(alloc, matches, true)?;
     let wishes = or_none_ever(wished_of(alloc, matches)?)?;
     Ok(Some(Request::Test(Test {
@@ -540,6 +559,8 @@ fn test_request<'a>(
         options,
         wishes,
         workers,
+        jobs,
+        pages: text_of(matches, "FOLDER"),
     })))
 }
 
@@ -554,6 +575,44 @@ fn infer_request<'a>(
         return Ok(None);
     };
     Ok(Some(Request::Infer(streams)))
+}
+
+/// What the arguments of `batch` ask for, if all that they give could be.
+fn batch_request<'a>(
+    alloc: Global,
+    matches: &ArgMatches<'a>,
+) -> Result<Option<Request<'a>>, AllocError>
+    ensures { IfOk result (FindsRequest (codes "batch") (rows_in matches.now)) }
+{
+    let Some(workers) = workers_of(matches) else {
+        return Ok(None);
+    };
+    let Some(jobs) = jobs_of(matches) else {
+        return Ok(None);
+    };
+    let options = all_options(alloc, matches)?;
+    let Some(fail_on) = conditions_of(alloc, matches)? else {
+        return Ok(None);
+    };
+    Ok(Some(Request::Batch(Batch {
+        options,
+        fail_on,
+        workers,
+        jobs,
+    })))
+}
+
+/// What the arguments of `bundle` ask for, if a run is named.
+fn bundle_request<'a>(
+    alloc: Global,
+    matches: &ArgMatches<'a>,
+) -> Result<Option<Request<'a>>, AllocError>
+    ensures { IfOk result (FindsRequest (codes "bundle") (rows_in matches.now)) }
+{
+    let Some(runs) = names_of(alloc, matches, "RUN")? else {
+        return Ok(None);
+    };
+    Ok(Some(Request::BundleRuns(runs)))
 }
 
 /// What is asked for by the command of this name, by what the parser found, if that names anything.
@@ -572,6 +631,9 @@ fn request_by_command<'a>(
         "explore" => explore_request(alloc, matches),
         "test" => test_request(alloc, matches),
         "infer" => infer_request(alloc, matches),
+        "batch" => batch_request(alloc, matches),
+        "bundle" => bundle_request(alloc, matches),
+        "merge" => Ok(Some(Request::Merge)),
         _ => Ok(None),
     }
 }

@@ -3,18 +3,19 @@ ghost use Rattle.clap.specs.Simple.{app_of};
 ghost use Rattle.clap.specs.Walk.{rule_of};
 ghost use Rattle.clap.specs.declared.builder.command.Command.TheViews.{out-Command};
 ghost use Rattle.app_arguments.specs.Statuses.{IsVersionLine};
-ghost use Rattle.app_arguments.specs.Table.{check_arguments, draw_arguments, explore_arguments, infer_arguments, judge_arguments, monitor_app, plain_app, rule_for, serve_arguments, test_arguments, with_arguments, with_commands};
+ghost use Rattle.app_arguments.specs.Table.{batch_arguments, bundle_arguments, check_arguments, draw_arguments, explore_arguments, infer_arguments, judge_arguments, merge_arguments, monitor_app, plain_app, rule_for, serve_arguments, test_arguments, with_arguments, with_commands};
 ghost use Rattle.app_arguments.specs.Views.{row_view};
 ghost use Rattle.std.specs.Prelude.{◌≡◌, ◌∷◌, IfOk, [], codes, false, map};
 
 use super::help::{
-    ABOUT, AFTER, CHECK_ABOUT, CHECK_AFTER, DRAW_ABOUT, DRAW_AFTER, EXPLORE_ABOUT, EXPLORE_AFTER,
-    INFER_ABOUT, INFER_AFTER, JUDGE_ABOUT, JUDGE_AFTER, SERVE_ABOUT, SERVE_AFTER, TEST_ABOUT,
-    TEST_AFTER,
+    ABOUT, AFTER, BATCH_ABOUT, BATCH_AFTER, BUNDLE_ABOUT, BUNDLE_AFTER, CHECK_ABOUT, CHECK_AFTER,
+    DRAW_ABOUT, DRAW_AFTER, EXPLORE_ABOUT, EXPLORE_AFTER, INFER_ABOUT, INFER_AFTER, JUDGE_ABOUT,
+    JUDGE_AFTER, MERGE_ABOUT, MERGE_AFTER, SERVE_ABOUT, SERVE_AFTER, TEST_ABOUT, TEST_AFTER,
 };
 use super::table::{
-    ArgumentKind, Row, check_arguments, draw_arguments, explain, explore_arguments,
-    infer_arguments, judge_arguments, serve_arguments, test_arguments,
+    ArgumentKind, Row, batch_arguments, bundle_arguments, check_arguments, draw_arguments, explain,
+    explore_arguments, infer_arguments, judge_arguments, merge_arguments, serve_arguments,
+    test_arguments,
 };
 use clap::builder::ValueParser;
 use clap::{Arg, ArgAction, Command};
@@ -185,10 +186,43 @@ fn with_others<'a>(alloc: Global, program: Command<'a>) -> Result<Command<'a>, A
     )
 }
 
+/// The program's command line with the commands on lines, too.
+fn with_lines<'a>(alloc: Global, program: Command<'a>) -> Result<Command<'a>, AllocError>
+    ensures { IfOk result (λ whole. app_of whole ≡ with_commands (app_of program.entry)
+        ((codes "batch", batch_arguments) ∷ (codes "bundle", bundle_arguments)
+        ∷ (codes "merge", merge_arguments) ∷ [])) }
+{
+    let program = with_command(
+        alloc,
+        program,
+        "batch",
+        &batch_arguments(),
+        BATCH_ABOUT,
+        BATCH_AFTER,
+    )?;
+    let program = with_command(
+        alloc,
+        program,
+        "bundle",
+        &bundle_arguments(),
+        BUNDLE_ABOUT,
+        BUNDLE_AFTER,
+    )?;
+    with_command(
+        alloc,
+        program,
+        "merge",
+        &merge_arguments(),
+        MERGE_ABOUT,
+        MERGE_AFTER,
+    )
+}
+
 /// The program's command line.
 pub(crate) fn program_command<'a>(alloc: Global) -> Result<Command<'a>, AllocError>
     ensures { IfOk result (λ command. app_of command ≡ monitor_app) }
 {
     let program = with_files(alloc, plain_command(alloc)?)?;
-    with_others(alloc, program)
+    let program = with_others(alloc, program)?;
+    with_lines(alloc, program)
 }

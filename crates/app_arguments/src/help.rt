@@ -8,7 +8,8 @@ A report is written to the standard output. The command `check` checks the evide
 draws it, or a session of which the report is made first. \
 The command `serve` judges streams that processes send over TCP or a Unix socket while they run, `explore` writes a \
 page on which a run is explored, `test` says of many recorded runs which are not as wished, and `infer` writes a \
-first session document of recorded streams.";
+first session document of recorded streams. The command `batch` judges sessions that come one in a line, as `bundle` \
+writes them, and `merge` counts its answers.";
 
 /// What the program's help ends with.
 pub(crate) const AFTER: &str = "\
@@ -16,18 +17,19 @@ With --explain anywhere in the arguments the answers, a refusal and whatever fai
 error; in a terminal, or with MONITOR_EXPLAIN=1 in the environment, it is so without that.
 
 With --max-time SECONDS anywhere in the arguments, 1 to 604800, a run that takes longer ends with status 6. Then \
-nothing is written to the standard output but the lines of the runs that `test` has judged.
+nothing is written to the standard output but the lines of the runs that `test` has judged, or of the sessions of \
+`batch`.
 
 Status:
   0  The session is judged, and no condition of --fail-on is met; all tested runs pass; a check finds nothing bad; the \
-picture, the page, the first document or the help is written
-  1  The session, or a stream of a first document, is refused; a tested run could not be judged, and none fails; a \
-check finds something bad, or what stands against the picture
+picture, the page, the first document, the line of each run or the help is written
+  1  The session, or a stream of a first document, is refused; a tested run, or a line, could not be judged, and none \
+fails; a check finds something bad, or what stands against the picture; a line has nothing to count
   2  The arguments are refused, or name a predicate or evidence that isn't there
   3  A file can't be opened or read, a port can't be bound, a stream can't be accepted or doesn't come in time, or the \
 output or what is to be kept can't be written
   4  Memory runs out
-  5  The session is judged, and a condition of --fail-on is met; a tested run fails
+  5  The session, or one of a line, is judged, and a condition of --fail-on is met; a tested run fails
   6  The time of --max-time is over";
 
 /// What is wanted of a list of conditions.
@@ -62,6 +64,8 @@ definitely-no  it is no\n  \
 unknown        one of the two answers is unknown\n\n\
 With --format json the report is one line with a JSON object, for programs, in place of its lines; its field `report` \
 has these.\n\n\
+With - as SPEC and no STREAM a bundle is read from the standard input: the document and the streams, with a line --- \
+between each two.\n\n\
 With --notes an explanation says what recorders noted of the events that it names, in files beside the streams. The \
 report and the status are the same.\n\n\
 An answer is unknown where a level of the lattice has more cuts than the document's width. With --beyond-width \
@@ -190,6 +194,9 @@ pass, 5 if one fails, or else 1 if one could not be judged, 2 if the arguments a
 written, and 4 if memory runs out.\n\n\
 With --max-time SECONDS the status is 6 if the run takes longer, and nothing is written to the standard output \
 but the lines of the runs that were judged, and a last line that says so.\n\n\
+With --jobs N runs are judged side by side: the lines are the same, in the same order.\n\
+With --pages FOLDER a page on which it is explored is written of each run that fails, as FOLDER/NAME.html of the run \
+NAME; the status is 3 if one can't be written.\n\n\
 The formats are described in docs/SPECIFICATION.md. An example, at the top of the repository:\n  \
 crates/monitor/out/monitor test examples/redis-lock examples/redis-lock-fenced";
 
@@ -206,3 +213,56 @@ written, and 4 if memory runs out.\n\n\
 With --max-time SECONDS the status is 6 if the run takes longer, and nothing is written to the standard output.\n\n\
 The formats are described in docs/SPECIFICATION.md. An example, at the top of the repository:\n  \
 crates/monitor/out/monitor infer examples/ten-lines/left.stream examples/ten-lines/right.stream > session.json";
+
+/// What the help says of `batch`.
+pub(crate) const BATCH_ABOUT: &str =
+    "Judges sessions that come one in a line, and writes a line of each";
+
+/// What the help of `batch` ends with.
+pub(crate) const BATCH_AFTER: &str =
+    "Each line of the standard input is a session, as `bundle` writes it: a JSON object whose field `document` is the \
+text of a session document, `streams` the texts of its streams, and `id` a name, which may be missing. Of each line a \
+line is written to the standard output, in the same order: a JSON object with `id`, the `status` that `judge` would \
+end with, and the `report` that `judge --format json` would write; or, of a line that is no session, with `line`, its \
+number, and `error`, which says why. No line stops the others. The status is 5 if the status of one is 5, or else 1 if \
+one is refused or is no session, 2 if the arguments are refused, 3 if the input can't be read or the output can't be \
+written, and 4 if memory runs out.\n\n\
+With --jobs N sessions are judged side by side: the lines are the same, in the same order.\n\n\
+With --width, --ask, --beyond-width and --fail-on each session is judged as by `judge`.\n\n\
+With --max-time SECONDS the status is 6 if the run takes longer, and nothing is written to the standard output but the \
+lines of sessions that were judged.\n\n\
+The formats are described in docs/SPECIFICATION.md. An example, at the top of the repository:\n  \
+crates/monitor/out/monitor bundle examples/redis-lock examples/redis-lock-fenced | \
+crates/monitor/out/monitor batch --fail-on possibly";
+
+/// What the help says of `bundle`.
+pub(crate) const BUNDLE_ABOUT: &str =
+    "Writes recorded runs, each in a folder, as sessions in lines";
+
+/// What the help of `bundle` ends with.
+pub(crate) const BUNDLE_AFTER: &str =
+    "A run is a folder with the session document, session.json, and for each process NAME its stream, NAME.stream. Of \
+each a line is written to the standard output, in the order of the runs: the session as `batch` reads it, whose `id` \
+is the name of the folder; or, of a run that can't be read, a JSON object with `id` and `error`, which `batch` hands \
+on. The status is 0 if all runs are read, 1 if one isn't, 2 if the arguments are refused, 3 if the output can't be \
+written, and 4 if memory runs out.\n\n\
+With --max-time SECONDS the status is 6 if the run takes longer, and nothing is written to the standard output but the \
+lines of runs that were read.\n\n\
+The formats are described in docs/SPECIFICATION.md. An example, at the top of the repository:\n  \
+crates/monitor/out/monitor bundle examples/redis-lock examples/redis-lock-fenced > sessions";
+
+/// What the help says of `merge`.
+pub(crate) const MERGE_ABOUT: &str = "Counts what `batch` wrote, and puts such counts together";
+
+/// What the help of `merge` ends with.
+pub(crate) const MERGE_AFTER: &str =
+    "Each line of the standard input is one that `batch` wrote, or one that `merge` did. One line is written to the \
+standard output: a JSON object that counts runs, their statuses and the answers of each predicate, and names the runs \
+whose status isn't 0. It is the same however the lines are shared among calls, and in whatever order. The status is 5 \
+if a status of 5 is counted, or else 1 if one of 1 or an error is, or if a line is neither; then nothing is written, \
+and the line is named. It is 2 if the arguments are refused, 3 if the input can't be read or the output can't be \
+written, and 4 if memory runs out.\n\n\
+With --max-time SECONDS the status is 6 if the run takes longer, and nothing is written to the standard output.\n\n\
+The formats are described in docs/SPECIFICATION.md. An example, at the top of the repository:\n  \
+crates/monitor/out/monitor bundle examples/redis-lock examples/redis-lock-fenced | \
+crates/monitor/out/monitor batch --fail-on possibly | crates/monitor/out/monitor merge";

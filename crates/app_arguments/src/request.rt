@@ -102,8 +102,25 @@ pub struct Test<'a> {
     pub options: Options<'a>,
     /// What is wished of the predicates.
     pub wishes: Vec<Wish<'a>>,
-    /// How many workers share the work.
+    /// How many workers share the work on one run.
     pub workers: Workers,
+    /// How many runs are judged side by side.
+    pub jobs: Workers,
+    /// The name of the folder for the pages of runs that fail, if there is one.
+    pub pages: Option<&'a str>,
+}
+
+/// What a judgement of sessions in lines is asked for.
+#[derive(Drop)]
+pub struct Batch<'a> {
+    /// What is asked beside each document.
+    pub options: Options<'a>,
+    /// The answers to fail on.
+    pub fail_on: FailOn<'a>,
+    /// How many workers share the work on one session.
+    pub workers: Workers,
+    /// How many sessions are judged side by side.
+    pub jobs: Workers,
 }
 
 /// What the program is asked for.
@@ -126,4 +143,10 @@ pub enum Request<'a> {
     Test(Test<'a>),
     /// To write the first session document of the streams in the files of these names.
     Infer(Vec<&'a str>),
+    /// To judge the sessions in the lines of the input.
+    Batch(Batch<'a>),
+    /// To write the recorded runs in the folders of these names as sessions in lines.
+    BundleRuns(Vec<&'a str>),
+    /// To write the summary of the answers and the summaries in the lines of the input.
+    Merge,
 }

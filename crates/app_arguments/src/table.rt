@@ -1,5 +1,5 @@
 //! The table of the program's commands: what each takes, and what its help says of it.
-ghost use Rattle.app_arguments.specs.Table.{asking, beyond_width, check_arguments, column_number_limit, draw_arguments, explain, explore_arguments, infer_arguments, judge_arguments, notes, option, placed, port_limit, serve_arguments, streams, test_arguments, wait_limit, watcher_limit, workers};
+ghost use Rattle.app_arguments.specs.Table.{asking, batch_arguments, beyond_width, bundle_arguments, check_arguments, column_number_limit, draw_arguments, explain, explore_arguments, infer_arguments, jobs, judge_arguments, merge_arguments, notes, option, placed, port_limit, runs, serve_arguments, streams, test_arguments, wait_limit, watcher_limit, workers};
 ghost use Rattle.app_arguments.specs.Views.{row_view};
 ghost use Rattle.app_arguments.specs.declared.table.ArgumentKind.TheVariants as kinds;
 ghost use Rattle.def_format.specs.Limits.{width_limit, worker_limit};
@@ -521,9 +521,37 @@ fn link() -> Row
     )
 }
 
+/// How many runs or sessions are judged side by side.
+fn jobs() -> Row
+    ensures { row_view result ≡ jobs }
+{
+    with_default(
+        option(
+            "JOBS",
+            "jobs",
+            ArgumentKind::Number(1, WORKER_LIMIT),
+            "How many sessions, at most 16, are judged side by side; that changes no byte of what is written",
+        ),
+        "1",
+    )
+}
+
+/// The folder for pages of runs that fail.
+fn pages() -> Row
+    ensures { row_view result ≡ option (codes "FOLDER") (codes "pages") kinds.Text }
+{
+    option(
+        "FOLDER",
+        "pages",
+        ArgumentKind::Text,
+        "Write a page on which it is explored, NAME.html, of each run NAME that fails into this folder, which is made \
+if there is none",
+    )
+}
+
 /// The folders of recorded runs.
 fn runs() -> Row
-    ensures { row_view result ≡ placed (codes "RUN") kinds.Names }
+    ensures { row_view result ≡ runs }
 {
     placed(
         "RUN",
@@ -632,7 +660,7 @@ pub(crate) fn explore_arguments() -> [Row; 13]
 }
 
 /// What `test` takes, in the order of its help.
-pub(crate) fn test_arguments() -> [Row; 8]
+pub(crate) fn test_arguments() -> [Row; 10]
     ensures { map row_view result ≡ test_arguments }
 {
     [
@@ -644,6 +672,8 @@ pub(crate) fn test_arguments() -> [Row; 8]
         never(),
         always(),
         sometimes(),
+        jobs(),
+        pages(),
     ]
 }
 
@@ -652,4 +682,33 @@ pub(crate) fn infer_arguments() -> [Row; 2]
     ensures { map row_view result ≡ infer_arguments }
 {
     [streams(), explain()]
+}
+
+/// What `batch` takes, in the order of its help.
+pub(crate) fn batch_arguments() -> [Row; 7]
+    ensures { map row_view result ≡ batch_arguments }
+{
+    [
+        explain(),
+        width(),
+        ask(),
+        workers(),
+        beyond_width(),
+        fail_on(),
+        jobs(),
+    ]
+}
+
+/// What `bundle` takes, in the order of its help.
+pub(crate) fn bundle_arguments() -> [Row; 2]
+    ensures { map row_view result ≡ bundle_arguments }
+{
+    [runs(), explain()]
+}
+
+/// What `merge` takes, in the order of its help.
+pub(crate) fn merge_arguments() -> [Row; 1]
+    ensures { map row_view result ≡ merge_arguments }
+{
+    [explain()]
 }

@@ -11,6 +11,7 @@
 //! - `note`, `notes`, `noted_source`: what is read, for an explanation
 //! - `level_gate`: the gate of a walk over a session in files
 //! - `line`: writes a line to the errors
+//! - `flushed_output`: writes a text and flushes the output
 //! - `status`: exit statuses, and the lines that report faults
 //! - `session_files`: opens and reads the files of a session
 //! - `claim_files`: the files of a report and of the session that it is said to be of
@@ -24,6 +25,7 @@ mod addresses;
 mod checks;
 mod claim_files;
 mod file_source;
+mod flushed_output;
 mod json;
 mod judgements;
 mod level_gate;
@@ -41,6 +43,7 @@ pub use addresses::{is_loopback, port_of_address};
 pub use checks::{check_files, check_seen};
 pub use claim_files::read_claim;
 pub use file_source::FileSource;
+pub use flushed_output::write_flushed;
 pub use judgements::{judge_files, judge_read};
 pub use level_gate::LevelGate;
 pub use line::write_line;

@@ -17,8 +17,14 @@ const TIME: &[u8] = b"monitor: time\n";
 /// The command that waits for connections.
 const SERVE: &str = "serve";
 
-/// The command that writes a line for each run.
+/// The command that writes a line for each run, and a last one.
 const TEST: &str = "test";
+
+/// The command that writes a line for each session.
+const BATCH: &str = "batch";
+
+/// The command that writes each run as a session in a line.
+const BUNDLE: &str = "bundle";
 
 /// A run that may take no more than some seconds, by its arguments.
 #[derive(Clone, Copy)]
@@ -27,8 +33,10 @@ pub struct Limited {
     seconds: u64,
     /// Whether an explanation is wanted.
     explain: bool,
-    /// Whether runs are tested: each line of what is written is whole then.
-    pub is_test: bool,
+    /// Whether a line is written for each run or session: the run may be ended after each of them.
+    pub is_by_lines: bool,
+    /// Whether runs are tested: a last line says that there are no more.
+    pub(crate) is_test: bool,
     /// Whether streams come by connections.
     is_served: bool,
 }
@@ -41,10 +49,12 @@ fn asks_for(arguments: &[String], command: &str) -> bool {
 impl Limited {
     /// A run on these arguments, of which the first is the program's name, that may take so many seconds.
     pub fn new(arguments: &[String], seconds: u64, explain: bool) -> Limited {
+        let is_test = asks_for(arguments, TEST);
         Limited {
             seconds,
             explain,
-            is_test: asks_for(arguments, TEST),
+            is_by_lines: is_test || asks_for(arguments, BATCH) || asks_for(arguments, BUNDLE),
+            is_test,
             is_served: asks_for(arguments, SERVE),
         }
     }
@@ -139,6 +149,8 @@ fn explain_time(
         out,
         if limited.is_test {
             "The lines of the runs that were judged are written, and a last line says that there are no more.\n"
+        } else if limited.is_by_lines {
+            "The lines of what was done until then are written, and no others.\n"
         } else {
             "Nothing is written to the standard output.\n"
         },

@@ -46,6 +46,7 @@ mod watchers;
 pub use explained_services::service_text;
 pub use host::Host;
 pub use peers::Peers;
+pub use port_file::replace_file;
 pub use server::serve;
 pub use service_fault::ServiceFault;
 pub use service_status::report_service_end;

@@ -1,4 +1,6 @@
 -- The modules of lemmas of this crate.
 mod OpenedStreams
 mod OutcomesOfRead
-mod WrittenTests
+mod JobResults
+mod RunLines
+pub mod WrittenTests

@@ -1,5 +1,5 @@
 -- What comes of a run by the bytes that were read of its document comes of it by the document's file.
-use Rattle.std.proofs.Common.{◌≡◌, ℕ, List, [], ◌∷◌, map, None, Ok, Err, ap, inl, inr, refl, sym, subst}
+use Rattle.std.proofs.Common.{◌≡◌, ℕ, List, [], ◌∷◌, map, None, Ok, Err, ap, inl, inr, refl, sym, subst, ◌∙◌}
 use Rattle.std.specs.Prelude.{IfOk, Result}
 use Rattle.std.specs.List.{AllZip}
 use Rattle.def_format.specs.Documents.{Document, DocumentFault, Inquiry, IsDocument, IsRefusedDocument, Options, inquiry_of, outline_of_inquiry}
@@ -17,7 +17,9 @@ use Rattle.pd_engine.specs.SessionReports.{IsTrueReportOfInputs}
 use Rattle.app_host.specs.FileSources.{IsReadOf, Knows}
 use Rattle.app_host.proofs.DocumentPrefixes.{same_document, same_judgement, same_refusal, same_truth}
 use Rattle.app_host.proofs.FilesRead.{given_as_files, of_document}
+use Rattle.app_test.specs.Jobs.{IsJobOf, IsReadJob}
 use Rattle.app_test.specs.Tests.{IsOutcome, IsReadOutcome, IsReportOfInquiry, document_in, streams_in}
+use Rattle.app_test.specs.declared.job.Job.{Job}
 
 -- ---- the whole document
 
@@ -61,7 +63,7 @@ moved files options wishes folder read bytes same (Reported report) found = reco
   };
 }
 
-pub outcome_of_read : (files : List ℕ → File) (options : Options) (wishes : List Condition) (folder read : List ℕ)
+outcome_of_read : (files : List ℕ → File) (options : Options) (wishes : List Condition) (folder read : List ℕ)
     → IsReadOf read (files (document_in folder)).source → (outcome : Outcome)
     → IsReadOutcome files wishes folder (inquiry_of options read) outcome
     → IsOutcome files options wishes folder outcome
@@ -73,40 +75,30 @@ outcome_of_read files options wishes folder read is outcome found =
       holds = moved files options wishes folder read all.bytes all.holds outcome found;
     })
 
--- the same of a result
-pub outcomes_of_read : (files : List ℕ → File) (options : Options) (wishes : List Condition) (folder read : List ℕ)
-    → IsReadOf read (files (document_in folder)).source → (result : Result outcomes.Outcome EngineFault)
-    → IfOk result (λ outcome. IsReadOutcome files wishes folder (inquiry_of options read) (outcome_view outcome))
-    → IfOk result (λ outcome. IsOutcome files options wishes folder (outcome_view outcome))
-outcomes_of_read files options wishes folder read is (Ok outcome) found =
-    outcome_of_read files options wishes folder read is (outcome_view outcome) found
-outcomes_of_read files options wishes folder read is (Err fault) found = tt
-
--- what comes of a run whatever is wished for
-pub of_any_wishes : (files : List ℕ → File) (wishes : List Condition) (folder : List ℕ) (inquiry : Inquiry)
-    (result : Result outcomes.Outcome EngineFault)
-    → IfOk result (λ outcome. (all : List Condition) → IsReadOutcome files all folder inquiry (outcome_view outcome))
-    → IfOk result (λ outcome. IsReadOutcome files wishes folder inquiry (outcome_view outcome))
-of_any_wishes files wishes folder inquiry (Ok outcome) found = found wishes
-of_any_wishes files wishes folder inquiry (Err fault) found = tt
+-- whatever comes of a job by the bytes that were read comes of it by the file
+pub jobs_of_read : {F : Type 0} (files : List ℕ → File) (options : Options) (wishes : List Condition)
+    (folder read : List ℕ) → IsReadOf read (files (document_in folder)).source → (left : F → Source)
+    → (result : Result (Job F) EngineFault) → IfOk result (IsReadJob left files options wishes folder read)
+    → IfOk result (IsJobOf left files options wishes folder)
+jobs_of_read files options wishes folder read is left (Ok job) found =
+    λ outcome given. outcome_of_read files options wishes folder read is outcome (found outcome given)
+jobs_of_read files options wishes folder read is left (Err fault) found = tt
 
 -- what comes of a run whose document can't be read
-pub unread_document : (files : List ℕ → File) (options : Options) (wishes : List Condition) (folder path : List ℕ)
-    (fault : EngineFault) → path ≡ document_in folder
-    → (fault ≡ Read → MayBeUnread (files path ∷ []) (files path ∷ []))
-    → (result : Result outcomes.Outcome EngineFault)
-    → IfOk result (λ outcome. (fault ≡ Read) × (outcome_view outcome ≡ Unread path))
-    → IfOk result (λ outcome. IsOutcome files options wishes folder (outcome_view outcome))
-unread_document files options wishes folder path fault same unread (Ok outcome) found =
-    subst (λ (o : Outcome). IsOutcome files options wishes folder o) (sym found.1)
+pub unread_document : (files : List ℕ → File) (options : Options) (wishes : List Condition)
+    (folder path : List ℕ) (fault : EngineFault) → path ≡ document_in folder
+    → (fault ≡ Read → MayBeUnread (files path ∷ []) (files path ∷ [])) → (known : outcomes.Outcome)
+    → (fault ≡ Read) × (outcome_view known ≡ Unread path)
+    → (outcome : Outcome) → outcome ≡ outcome_view known → IsOutcome files options wishes folder outcome
+unread_document files options wishes folder path fault same unread known found outcome is =
+    subst (λ (o : Outcome). IsOutcome files options wishes folder o) (sym (is ∙ found.1))
     (subst (λ (p : List ℕ). IsOutcome files options wishes folder (Unread p)) (sym same)
     (inl (refl, subst (λ (p : List ℕ). MayBeUnread (files p ∷ []) (files p ∷ [])) same (unread found.0))))
-unread_document files options wishes folder path fault same unread (Err other) found = tt
 
 -- ---- the report of an inquiry
 
 -- of the document that is read, and of its streams' files
-pub report_of_document : (files : List ℕ → File) (wishes : List Condition) (folder : List ℕ) (inquiry : Inquiry)
+report_of_document : (files : List ℕ → File) (wishes : List Condition) (folder : List ℕ) (inquiry : Inquiry)
     (document : Document) (lefts : List Source) (report : Report) → OneDocument → DocumentNotRefused
     → IsDocument inquiry document → first_unnamed (names_of document.predicates) wishes ≡ None
     → AllZip Knows (sources_of (map files (streams_in folder document.names))) lefts
@@ -128,7 +120,7 @@ report_of_document files wishes folder inquiry document lefts report one not_ref
 }
 
 -- of a document that is refused
-pub report_of_refused : {F : Type 0} (files : List ℕ → File) (wishes : List Condition) (folder : List ℕ)
+report_of_refused : {F : Type 0} (files : List ℕ → File) (wishes : List Condition) (folder : List ℕ)
     (inquiry : Inquiry) (fault : DocumentFault) (left : F → Source) (streams : List F) (report : Report)
     → DocumentNotRefused → IsRefusedDocument inquiry fault → streams ≡ []
     → IsTrueReportOfInputs inquiry (map left streams) report
@@ -139,3 +131,31 @@ report_of_refused files wishes folder inquiry fault left streams report not_refu
   of_refused = λ other _. refl;
   given = subst (λ items. IsTrueReportOfInputs inquiry (map left items) report) none given;
 }
+
+-- ---- what is left to do
+
+module _ {F : Type 0} (files : List ℕ → File) (options : Options) (wishes : List Condition) (folder bytes : List ℕ)
+    (left : F → Source) (streams : List F) where
+  -- of a document that is refused
+  pub refused_is_read : (fault : DocumentFault) → DocumentNotRefused
+      → IsRefusedDocument (inquiry_of options bytes) fault → streams ≡ [] → (outcome : Outcome)
+      → (report : Report) × (outcome ≡ Reported report)
+      × IsTrueReportOfInputs (inquiry_of options bytes) (map left streams) report
+      → IsReadOutcome files wishes folder (inquiry_of options bytes) outcome
+  refused_is_read fault not_refused refused none outcome given =
+      subst (λ (o : Outcome). IsReadOutcome files wishes folder (inquiry_of options bytes) o) (sym given.1)
+      (report_of_refused files wishes folder (inquiry_of options bytes) fault left streams given.0 not_refused refused
+      none given.2)
+
+  -- of a document that has each predicate that is wished for
+  pub document_is_read : (document : Document) → OneDocument → DocumentNotRefused
+      → IsDocument (inquiry_of options bytes) document
+      → first_unnamed (names_of document.predicates) wishes ≡ None
+      → AllZip Knows (sources_of (map files (streams_in folder document.names))) (map left streams)
+      → (outcome : Outcome) → (report : Report) × (outcome ≡ Reported report)
+      × IsTrueReportOfInputs (inquiry_of options bytes) (map left streams) report
+      → IsReadOutcome files wishes folder (inquiry_of options bytes) outcome
+  document_is_read document one not_refused is named known outcome given =
+      subst (λ (o : Outcome). IsReadOutcome files wishes folder (inquiry_of options bytes) o) (sym given.1)
+      (report_of_document files wishes folder (inquiry_of options bytes) document (map left streams) given.0 one
+      not_refused is named known given.2)

@@ -1,17 +1,15 @@
--- What is written of a test, run by run.
-use Rattle.std.proofs.Common.{◌≡◌, ℕ, suc, ◌+◌, ◌<◌, ◌≤◌, List, [], ◌∷◌, ◌++◌, length, take, map, Option, Ok, Err, refl, sym, ap, subst, ◌∙◌, append_assoc, append-nil, inl, inr, arith}
-use Rattle.std.specs.Prelude.{⊤, IfErr, IsErr, IsErrAnd, OnErr, OnOk, Result}
-use Rattle.std.specs.List.{AllZip, slice_index_or}
+-- What is written of a test, some runs after others.
+use Rattle.std.proofs.Common.{◌≡◌, ℕ, suc, ◌+◌, List, [], ◌∷◌, ◌++◌, length, take, Option, Ok, Err, refl, sym, ap, subst, ◌∙◌, append_assoc, inl, inr, arith}
+use Rattle.std.specs.Prelude.{⊤, Bool, IfErr, IsErr, IsErrAnd, Result, min}
+use Rattle.std.specs.List.{AllZip}
 use Rattle.std.specs.Io.KnownBytes.{Appends, Keeps}
 use Rattle.std.proofs.KnownBytes.{Appends-nil}
-use Rattle.std.proofs.Math.Seq.{take-suc}
-use Rattle.std.proofs.lemmas.List.{get_or-map, length-map, take-append-le, take_all}
-use Rattle.std.proofs.lemmas.List.Concat.{flat_map-append}
+use Rattle.std.proofs.lemmas.List.{take-append-le, take_all, take_min}
 use Rattle.def_format.specs.Documents.{Options}
 use Rattle.app_arguments.specs.Statuses.{File, WritesUpTo}
-use Rattle.app_host.proofs.FilesRead.{up_to_weaker, zip_on}
+use Rattle.app_host.proofs.FilesRead.{up_to_weaker}
 use Rattle.app_host.proofs.WrittenSoFar.{appends_kept, appends_on, up_to}
-use Rattle.judge_runs.specs.Runs.{Run, line_of, test_text}
+use Rattle.judge_runs.specs.Runs.{Run, test_text}
 use Rattle.judge_runs.specs.Tallies.{Stands, lines_text, summary_text}
 use Rattle.judge_runs.specs.Wishes.{Condition}
 use Rattle.judge_runs.specs.declared.conclusion.Conclusion.{Conclusion}
@@ -19,92 +17,39 @@ use Rattle.judge_runs.specs.declared.conclusion.Conclusion.TheVariants.{AllPass,
 use Rattle.judge_runs.specs.declared.tally.Tally.{Tally}
 use Rattle.judge_session.specs.declared.fault.EngineFault.{EngineFault}
 use Rattle.judge_session.specs.declared.fault.EngineFault.TheVariants.{BundleLong, Memory, Read, Write}
-use Rattle.app_test.specs.TestedRuns.{AreTested, EndsTest, IsConcluded, IsCutLine, IsTested, LeavesOfRun}
-use Rattle.app_test.specs.Tests.{IsOutcome, IsRunIn, IsTestText, TestLeaves, test_ending}
+use Rattle.app_test.specs.TestedRuns.{AreTested, EndsTest, IsConcluded, LeavesMore, TestsMore}
+use Rattle.app_test.specs.Tests.{IsRunIn, IsTestText, TestLeaves, test_ending}
+use Rattle.app_test.proofs.RunLines.{after_part, first_part, lines_on}
 
--- ---- prefixes
-
--- what is taken after a first part is taken of the other
-after_part : (xs ys : List ℕ) (k : ℕ) → take (length xs + k) (xs ++ ys) ≡ xs ++ take k ys
-after_part [] ys k = ap (λ n. take n ys) (let none : 0 + k ≡ k = omega arith in none)
-after_part (x ∷ xs) ys k =
-    ap (λ n. take n (x ∷ xs ++ ys)) (let more : suc (length xs) + k ≡ suc (length xs + k) = omega arith in more)
-    ∙ ap (λ l. x ∷ l) (after_part xs ys k)
-
-first_part : (xs ys : List ℕ) → take (length xs) (xs ++ ys) ≡ xs
-first_part xs ys =
-    take-append-le (length xs) xs ys (omega arith) ∙ take_all (length xs) xs (omega arith)
-
--- a prefix of the middle part
-middle_part : (xs ys zs : List ℕ) (k : ℕ) → k ≤ length ys
-    → take (length xs + k) ((xs ++ ys) ++ zs) ≡ xs ++ take k ys
-middle_part xs ys zs k le =
-    ap (take (length xs + k)) (append_assoc xs ys zs)
-    ∙ (after_part xs (ys ++ zs) k ∙ ap (λ l. xs ++ l) (take-append-le k ys zs le))
-
--- one more of the things that f makes
-pub take_next : {A B : Type 0} (f : A → B) (xs : List A) (i : ℕ) (d : A) → i < length xs
-    → take (i + 1) (map f xs) ≡ take i (map f xs) ++ f (slice_index_or xs i d) ∷ []
-take_next f xs i d lt =
-    ap (λ n. take n (map f xs)) (let next : i + 1 ≡ suc i = omega arith in next)
-    ∙ (take-suc (map f xs) i (f d) (omega (arith, length-map xs f, lt))
-    ∙ ap (λ y. take i (map f xs) ++ y ∷ []) (get_or-map f xs i d (f d) lt))
-
--- ---- one more run
-
--- the lines of runs and of one more
-lines_on : (wishes : List Condition) (runs : List Run) (run : Run)
-    → lines_text wishes (runs ++ run ∷ []) ≡ lines_text wishes runs ++ line_of wishes run
-lines_on wishes runs run =
-    flat_map-append (line_of wishes) runs (run ∷ [])
-    ∙ ap (λ l. lines_text wishes runs ++ l) (append-nil (line_of wishes run))
+-- ---- more runs
 
 pub none_tested : (files : List ℕ → File) (options : Options) (wishes : List Condition) (tally : Tally)
     (old : Option (List ℕ)) → Stands wishes [] tally → AreTested files options wishes [] tally old old
 none_tested files options wishes tally old stands =
     record { runs = []; are_runs = tt; stands = stands; written = Appends-nil old }
 
-module _ (files : List ℕ → File) (options : Options) (wishes : List Condition) (folders : List (List ℕ)) where
-  pub tested_on : (folder : List ℕ) (before after : Tally) (old middle new : Option (List ℕ))
-      → AreTested files options wishes folders before old middle
-      → IsTested files options wishes folder before after middle new
-      → AreTested files options wishes (folders ++ folder ∷ []) after old new
-  tested_on folder before after old middle new all one = record {
-    runs = all.runs ++ one.run ∷ [];
-    are_runs = zip_on (IsRunIn files options wishes) folders all.runs folder one.run all.are_runs one.is_run;
-    stands = one.stands all.runs all.stands;
-    written = subst (λ (text : List ℕ). Appends old new text) (sym (lines_on wishes all.runs one.run))
-        (appends_on old middle new (lines_text wishes all.runs) (line_of wishes one.run) all.written one.written);
+-- two lists of which R holds place by place, one after the other
+zip_append : {A B : Type 0} (R : A → B → Type 0) (xs : List A) (ys : List B) (more : List A) (others : List B)
+    → AllZip R xs ys → AllZip R more others → AllZip R (xs ++ more) (ys ++ others)
+zip_append R [] [] more others some rest = rest
+zip_append R [] (y ∷ ys) more others some rest = absurd some
+zip_append R (x ∷ xs) [] more others some rest = absurd some
+zip_append R (x ∷ xs) (y ∷ ys) more others some rest = (some.0, zip_append R xs ys more others some.1 rest)
+
+module _ (files : List ℕ → File) (options : Options) (wishes : List Condition) (folders more : List (List ℕ))
+    (tally : Tally) (old middle new : Option (List ℕ)) where
+  pub tested_on : (is_wanted : Bool) (after : Tally) (failing : List (List ℕ))
+      → AreTested files options wishes folders tally old middle
+      → TestsMore files options wishes is_wanted more tally after failing middle new
+      → AreTested files options wishes (folders ++ more) after old new
+  tested_on is_wanted after failing all some = record {
+    runs = all.runs ++ some.runs;
+    are_runs = zip_append (IsRunIn files options wishes) folders all.runs more some.runs all.are_runs some.are_runs;
+    stands = some.writes.stands all.runs all.stands;
+    written = subst (λ (text : List ℕ). Appends old new text) (sym (lines_on wishes all.runs some.runs))
+        (appends_on old middle new (lines_text wishes all.runs) (lines_text wishes some.runs) all.written
+        some.writes.written);
   }
-
--- ---- the line of a run
-
-module _ (files : List ℕ → File) (options : Options) (wishes : List Condition) (run : Run) (text line : List ℕ)
-    (old new : Option (List ℕ)) (outcome : IsOutcome files options wishes run.folder run.outcome)
-    (same : text ≡ line) (is_line : line ≡ line_of wishes run) where
-  pub line_written : (before after : Tally)
-      → ((runs : List Run) → Stands wishes runs before → Stands wishes (runs ++ run ∷ []) after)
-      → (result : Result (Unit {0}) EngineFault) → OnOk result (Appends old new text)
-      → OnOk result (IsTested files options wishes run.folder before after old new)
-  line_written before after stands (Ok done) written = record {
-    run = run;
-    is_run = (refl, outcome);
-    stands = stands;
-    written = subst (λ (bytes : List ℕ). Appends old new bytes) (same ∙ is_line) written;
-  }
-  line_written before after stands (Err fault) written = tt
-
-  pub line_cut : (result : Result (Unit {0}) EngineFault)
-      → OnErr result ((count : ℕ) × (count ≤ length text) × Appends old new (take count text))
-      → OnErr result (LeavesOfRun files options wishes run.folder old new)
-  line_cut (Ok done) part = tt
-  line_cut (Err fault) part = inr (record {
-    run = run;
-    is_run = (refl, outcome);
-    count = part.0;
-    within = subst (λ (bytes : List ℕ). part.0 ≤ length bytes) (same ∙ is_line) part.1;
-    written = subst (λ (bytes : List ℕ). Appends old new (take part.0 bytes)) (same ∙ is_line) part.2;
-  })
 
 -- ---- the summary
 
@@ -203,36 +148,77 @@ module _ (files : List ℕ → File) (options : Options) (wishes : List Conditio
       (sym (take_all (length folders) folders (omega arith)))
       (cut_summary tally middle fault all (go wishes all.runs all.stands)))
 
--- in the line of the next run
-module _ (files : List ℕ → File) (options : Options) (wishes : List Condition) (folders : List (List ℕ))
-    (folder : List ℕ) (tally : Tally) (old middle new : Option (List ℕ)) where
-  cut_line : AreTested files options wishes folders tally old middle
-      → IsCutLine files options wishes folder middle new
-      → LeavesPart files options wishes (folders ++ folder ∷ []) old new
-  cut_line all cut =
-      let lines = lines_text wishes all.runs in
-      let line = line_of wishes cut.run in
-      let summary = summary_text wishes (all.runs ++ cut.run ∷ []) in
-      cut_text files options wishes (folders ++ folder ∷ []) old new (all.runs ++ cut.run ∷ [])
-      (length lines + cut.count)
-      (zip_on (IsRunIn files options wishes) folders all.runs folder cut.run all.are_runs cut.is_run)
-      (subst (λ (text : List ℕ). Appends old new text)
-      (sym (ap (λ (text : List ℕ). take (length lines + cut.count) (text ++ summary))
-      (lines_on wishes all.runs cut.run) ∙ middle_part lines line summary cut.count cut.within))
-      (appends_on old middle new lines (take cut.count line) all.written cut.written))
+-- ---- in the lines of the next runs
 
-  -- before it, or in it: then the text is one of a test of this run too
-  pub cut_run : (all : List (List ℕ)) (i : ℕ) → take i all ≡ folders → take (i + 1) all ≡ folders ++ folder ∷ []
-      → AreTested files options wishes folders tally old middle
-      → LeavesOfRun files options wishes folder middle new
-      → (count : ℕ) × LeavesPart files options wishes (take count all) old new
-  cut_run all i are next tested (inl keeps) = (
-    i,
-    subst (λ (some : List (List ℕ)). LeavesPart files options wishes some old new) (sym are)
-        (cut_after files options wishes folders old new tally middle tested keeps),
-  )
-  cut_run all i are next tested (inr cut) = (
-    i + 1,
-    subst (λ (some : List (List ℕ)). LeavesPart files options wishes some old new) (sym next)
-        (cut_line tested cut),
-  )
+module _ (files : List ℕ → File) (options : Options) (wishes : List Condition) (folders more rest : List (List ℕ))
+    (tally : Tally) (old middle new : Option (List ℕ)) where
+  -- the first folders of all
+  first_folders : (count : ℕ) → take (length folders + count) (folders ++ (more ++ rest))
+      ≡ folders ++ take count (more ++ rest)
+  first_folders count = taken folders
+    where
+      taken : (some : List (List ℕ)) → take (length some + count) (some ++ (more ++ rest))
+          ≡ some ++ take count (more ++ rest)
+      taken [] = ap (λ n. take n (more ++ rest)) (let none : 0 + count ≡ count = omega arith in none)
+      taken (folder ∷ some) =
+          ap (λ n. take n (folder ∷ some ++ (more ++ rest)))
+          (let next : suc (length some) + count ≡ suc (length some + count) = omega arith in next)
+          ∙ ap (λ l. folder ∷ l) (taken some)
+
+  -- as many of the next folders as there are
+  next_folders : (count : ℕ) → take (min count (length more)) (more ++ rest) ≡ take count more
+  next_folders count = take-append-le (min count (length more)) more rest (omega arith) ∙ take_min count more
+
+  pub cut_more : AreTested files options wishes folders tally old middle
+      → LeavesMore files options wishes more middle new
+      → (count : ℕ) × LeavesPart files options wishes (take count (folders ++ (more ++ rest))) old new
+  cut_more all cut =
+      let some = folders ++ take cut.count more in
+      let lines = lines_text wishes all.runs in
+      let others = lines_text wishes cut.runs in
+      let part = min cut.left.0 (length others) in
+      let summary = summary_text wishes (all.runs ++ cut.runs) in
+      let text : take (length lines + part) (test_text wishes (all.runs ++ cut.runs))
+      ≡ lines ++ take cut.left.0 others =
+      ap (λ (l : List ℕ). take (length lines + part) (l ++ summary)) (lines_on wishes all.runs cut.runs)
+      ∙ (ap (take (length lines + part)) (append_assoc lines others summary)
+      ∙ (after_part lines (others ++ summary) part
+      ∙ ap (λ l. lines ++ l) (take-append-le part others summary (omega arith) ∙ take_min cut.left.0 others))) in
+      let left : LeavesPart files options wishes some old new =
+      cut_text files options wishes some old new (all.runs ++ cut.runs) (length lines + part)
+      (zip_append (IsRunIn files options wishes) folders all.runs (take cut.count more) cut.runs all.are_runs
+      cut.are_runs)
+      (subst (λ (l : List ℕ). Appends old new l) (sym text)
+      (appends_on old middle new lines (take cut.left.0 others) all.written cut.left.1)) in (
+        length folders + min cut.count (length more),
+        subst (λ (all : List (List ℕ)). LeavesPart files options wishes all old new)
+            (sym (first_folders (min cut.count (length more))
+            ∙ ap (λ l. folders ++ l) (next_folders cut.count))) left,
+      )
+
+-- ---- a test that doesn't begin, or whose pages can't be written
+
+module _ (files : List ℕ → File) (options : Options) (wishes : List Condition) (folders : List (List ℕ)) where
+  -- nothing is written
+  pub nothing_left : (old : Option (List ℕ))
+      → TestLeaves files options wishes folders (test_ending (Err Write)) old old
+  nothing_left old = (0, cut_text files options wishes [] old old [] 0 tt (Appends-nil old))
+
+  -- a text of a test of all is a text of a test of the first
+  of_first : (IsSaid : List Run → Type 0) (text : List ℕ) → IsTestText files options wishes IsSaid folders text
+      → IsTestText files options wishes (λ _. ⊤) (take (length folders) folders) text
+  of_first IsSaid text is = record {
+    runs = is.runs;
+    are_runs = subst (λ (some : List (List ℕ)). AllZip (IsRunIn files options wishes) some is.runs)
+        (sym (take_all (length folders) folders (omega arith))) is.are_runs;
+    said = tt;
+    is_text = is.is_text;
+  }
+
+  -- all is written, but something beside it can't be
+  pub unwritten_beside : (old new : Option (List ℕ)) (end : Conclusion)
+      → TestLeaves files options wishes folders (test_ending (Ok end)) old new
+      → TestLeaves files options wishes folders (test_ending (Err Write)) old new
+  unwritten_beside old new AllPass left = (length folders, inl (left.0, of_first _ left.0 left.1, left.2))
+  unwritten_beside old new SomeFails left = (length folders, inl (left.0, of_first _ left.0 left.1, left.2))
+  unwritten_beside old new SomeNotJudged left = (length folders, inl (left.0, of_first _ left.0 left.1, left.2))

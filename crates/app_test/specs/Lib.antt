@@ -2,3 +2,4 @@
 pub mod Tests
 pub mod ReadRuns
 pub mod TestedRuns
+pub mod Jobs

@@ -6,7 +6,7 @@ ghost use Rattle.std.specs.Prelude.{◌≡◌};
 
 use app_ends::{put_fault, rows_of};
 use app_host::{ALARMED, REFUSED, SUCCESS, System, World, report_fault};
-use app_text::say;
+use app_text::{say, say_advice, say_name, say_number, say_shown};
 use judge_runs::Conclusion;
 use judge_session::EngineFault;
 use std::alloc::AllocError;
@@ -34,31 +34,83 @@ pub fn report_test<E: Write>(end: &Result<Conclusion, EngineFault>, errors: &mut
     }
 }
 
-/// Explains how a test ended.
+/// What came of the pages of runs that fail.
+#[derive(Clone, Copy)]
+pub struct PagesEnd<'a> {
+    /// The name of the folder for them, if they were wanted.
+    pub folder: Option<&'a str>,
+    /// How many are written.
+    pub count: u64,
+    /// Whether all are that were wanted.
+    pub are_whole: bool,
+    /// Which couldn't be written first, and why, if there was memory for that.
+    pub failure: Option<&'a str>,
+}
+
+/// Says where the pages of runs that fail are, if there are some.
+fn put_pages(out: &mut Vec<u8>, pages: PagesEnd<'_>) -> Result<(), AllocError> {
+    match pages.folder {
+        Some(folder) if pages.count > 0 => {
+            say(
+                out,
+                "Each run NAME that fails is explored on a page, NAME.html in the folder ",
+            )?;
+            say_name(out, folder)?;
+            say(out, ": there are ")?;
+            say_number(out, pages.count)?;
+            say(out, ".\n")
+        }
+        _ => Ok(()),
+    }
+}
+
+/// Explains that not all pages could be written.
+fn put_unwritten(out: &mut Vec<u8>, pages: PagesEnd<'_>) -> Result<(), AllocError> {
+    say(out, "Not all pages of runs that fail are written. ")?;
+    if let Some(why) = pages.failure {
+        say_shown(out, why.as_bytes())?;
+        say(out, ".\n")?;
+    }
+    say_advice(
+        out,
+        "a folder in which files can be written, or a name that nothing has yet in such a folder; and room for the \
+pages.",
+        "give another folder after --pages, or make room.",
+    )?;
+    put_pages(out, pages)
+}
+
+/// Explains how a test ended, and says where pages are.
 fn put_test<Y: System>(
     out: &mut Vec<u8>,
     world: &World<'_, Y>,
     end: &Result<Conclusion, EngineFault>,
+    pages: PagesEnd<'_>,
 ) -> Result<(), AllocError> {
     match end {
         Ok(Conclusion::AllPass) => Ok(()),
-        Ok(Conclusion::SomeFails | Conclusion::SomeNotJudged) => say(
-            out,
-            "What to do: a run is explained by `monitor judge --explain --beyond-width RUN/session.json RUN/*.stream`, \
-and shown by `monitor explore --beyond-width` with the same files.\n",
-        ),
+        Ok(Conclusion::SomeFails | Conclusion::SomeNotJudged) => {
+            say(
+                out,
+                "What to do: a run is explained by `monitor judge --explain --beyond-width RUN/session.json \
+RUN/*.stream`, and shown by `monitor explore --beyond-width` with the same files.\n",
+            )?;
+            put_pages(out, pages)
+        }
+        Err(EngineFault::Write) if !pages.are_whole => put_unwritten(out, pages),
         Err(fault) => put_fault(out, world, None, "", &[], fault),
     }
 }
 
-/// The explanation of how a test ended, as far as it could be made; empty if none is wanted.
+/// The explanation of how a test ended, as far as it could be made, with where pages are; empty if none is wanted.
 pub fn test_text<Y: System>(
     world: &World<'_, Y>,
     end: &Result<Conclusion, EngineFault>,
+    pages: PagesEnd<'_>,
 ) -> Vec<u8> {
     let mut out = Vec::new(world.alloc);
     if world.explain {
-        let _ = put_test(&mut out, world, end);
+        let _ = put_test(&mut out, world, end, pages);
     }
     rows_of(world.alloc, out)
 }

@@ -3,24 +3,27 @@
 //!
 //! Of a run the document is read, each predicate that is wished for is looked up in it, the streams are opened in its
 //! order, and the report is made. A run that can't be read or is refused isn't judged, and the test goes on with the
-//! others. The line of each run is written as soon as the run is judged, and memory holds one run at a time.
+//! others. Some runs are judged side by side: their files are opened one after another, then each is judged in a thread
+//! of its own, and their lines are written in order as soon as all of them are judged. Memory holds these runs alone.
 //!
-//! What a test leaves on its output stands in `specs/Tests.antt`. The two files of definitions beside it are for the
-//! functions within: `ReadRuns` says why the streams of a run aren't open, and `TestedRuns` what is written of the runs
-//! so far.
+//! What a test leaves on its output stands in `specs/Tests.antt`. The three files of definitions beside it are for the
+//! functions within: `ReadRuns` says why the streams of a run aren't open, `Jobs` what comes of runs whose files are
+//! open, and `TestedRuns` what is written of the runs so far.
 //!
 //! - `run_files`: the names of a run's files
 //! - `run_document`: reads the document of a run
 //! - `unopened`: why the streams of a run aren't open
 //! - `run_streams`: opens the streams of a run
-//! - `run`: what comes of a run
-//! - `line_output`: writes a text and flushes the output
-//! - `tests`: tests runs, one after another
+//! - `job`: a run whose files are open, up to what comes of it
+//! - `jobs`: runs whose files are open, judged side by side
+//! - `run`: opens the files of a run
+//! - `tests`: tests runs, some at a time
 //! - `ends`: how a test ended: the exit status, what is reported, and an explanation
 #![tactic(auto)]
 
 mod ends;
-mod line_output;
+mod job;
+mod jobs;
 mod run;
 mod run_document;
 mod run_files;
@@ -28,5 +31,9 @@ mod run_streams;
 mod tests;
 mod unopened;
 
-pub use ends::{report_test, test_text};
-pub use tests::test_runs;
+pub use ends::{PagesEnd, report_test, test_text};
+pub use run_document::read_run_document;
+pub use run_files::{document_in, stream_in};
+pub use run_streams::open_streams;
+pub use tests::{conclude, test_some};
+pub use unopened::Unopened;

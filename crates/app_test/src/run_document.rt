@@ -10,7 +10,7 @@ use judge_session::EngineFault;
 ///
 /// # Errors
 /// `Read`, if the file can't be opened or read, and `Memory`.
-pub(crate) fn read_run_document<Y: System>(
+pub fn read_run_document<Y: System>(
     world: &World<'_, Y>,
     path: &str,
 ) -> Result<Vec<u8>, EngineFault>

@@ -21,7 +21,7 @@ fn file_in(alloc: Global, folder: &str, name: &str) -> Result<String, AllocError
 ///
 /// # Errors
 /// An allocation was refused.
-pub(crate) fn document_in(alloc: Global, folder: &str) -> Result<String, AllocError>
+pub fn document_in(alloc: Global, folder: &str) -> Result<String, AllocError>
     ensures { IfOk result (λ path. string_bytes path ≡ document_in folder.now) }
 {
     file_in(alloc, folder, "session.json")
@@ -31,7 +31,7 @@ pub(crate) fn document_in(alloc: Global, folder: &str) -> Result<String, AllocEr
 ///
 /// # Errors
 /// An allocation was refused.
-pub(crate) fn stream_in(alloc: Global, folder: &str, process: &str) -> Result<String, AllocError>
+pub fn stream_in(alloc: Global, folder: &str, process: &str) -> Result<String, AllocError>
     ensures { IfOk result (λ path. string_bytes path ≡ file_in folder.now (process.now ++ codes ".stream")) }
 {
     let mut name = String::from_str(alloc, process)?;

@@ -41,7 +41,7 @@ fn open_stream<'n, Y: System>(
 ///
 /// # Errors
 /// `Stream`, of the first that can't be opened, and `Memory`.
-pub(crate) fn open_streams<'n, Y: System>(
+pub fn open_streams<'n, Y: System>(
     world: &World<'n, Y>,
     folder: &str,
     spec: &Spec,

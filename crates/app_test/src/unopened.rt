@@ -3,7 +3,7 @@ use std::alloc::{AllocError, AllocFailed};
 
 /// Why the streams of a run aren't open.
 #[derive(Drop)]
-pub(crate) enum Unopened {
+pub enum Unopened {
     /// The file of this name can't be opened.
     Stream(String),
     /// An allocation was refused.

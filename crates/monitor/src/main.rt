@@ -220,7 +220,7 @@ fn main(rt: HostRuntime) -> ExitCode {
             rt.alloc(),
             asked,
             ShownFile::new(Retried::new(rt.stdin()), 0, &screen),
-            &mut Cleared::new(Retried::new(rt.stdout()), &screen, limited.is_test),
+            &mut Cleared::new(Retried::new(rt.stdout()), &screen, limited.is_by_lines),
             &mut Cleared::new(Retried::new(rt.stderr()), &screen, false),
         );
         theirs.end(&rt);

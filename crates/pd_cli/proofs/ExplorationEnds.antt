@@ -61,7 +61,8 @@ module _ (options : Options) (read document : List ℕ) (files lefts : List Sour
     is_text = h.is_text;
   }
 
-  owed_of_files : (extras : Extras) (used : List StreamFile) (IsSaid : Report → Type 0) (text : List ℕ)
+  -- what is owed by the bytes that were read is owed by the files
+  pub owed_of_files : (extras : Extras) (used : List StreamFile) (IsSaid : Report → Type 0) (text : List ℕ)
       → IsOwed (inquiry_of options read) extras used lefts IsSaid text
       → IsOwed (inquiry_of options document) extras used files IsSaid text
   owed_of_files extras used IsSaid text (inl page) = inl (page_of_files extras used IsSaid text page)

@@ -15,3 +15,5 @@ mod ParserEnds
 mod UnreadDrawings
 mod WholeStreams
 mod WishedNames
+mod TestsSoFar
+mod PagesOfRuns

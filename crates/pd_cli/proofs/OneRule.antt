@@ -17,7 +17,7 @@ use Rattle.app_arguments.specs.Conditions.{is_met, unknown_name}
 use Rattle.app_arguments.specs.Conditions as conditions
 use Rattle.app_arguments.specs.Formats.{Format, Plain, Json}
 use Rattle.app_arguments.specs.Places.{Place}
-use Rattle.app_arguments.specs.Statuses.{Alarm, BundleFailure, CheckFiles, ComesTo, DrawFiles, Ending, Ends, ExploreFiles, Failed, Failure, File, HasNamed as HasNamedBy, HelpLeaves, InferDocument, IsTextOfAccepted, JudgeFiles, JudgeInput, JudgementLeaves, LacksNamed, LeavesOf, MayBeUnread, MemoryFailure, Misuse, MisuseLeaves, Negative, NetworkFailure, NoPredicate, OfClaim, OfConnections, OfDocument, OfFinding, OfNamed, OfReport, PageOptions, ReadFailure, Reports, Request, ServeStreams, ServiceMayFail, SessionLeaves, ShowHelp, ShowVersion, Success, TestRuns, Unclear, VersionLeaves, WriteFailure, WritesUpTo, sources_of, status_of}
+use Rattle.app_arguments.specs.Statuses.{Alarm, BundleFailure, BundleRuns, CheckFiles, ComesTo, DrawFiles, Ending, Ends, ExploreFiles, Failed, Failure, File, HasNamed as HasNamedBy, HelpLeaves, InferDocument, IsTextOfAccepted, JudgeFiles, JudgeInput, JudgeLines, JudgementLeaves, LacksNamed, LeavesOf, MayBeUnread, MemoryFailure, MergeLines, Misuse, MisuseLeaves, Negative, NetworkFailure, NoPredicate, OfClaim, OfConnections, OfDocument, OfFinding, OfNamed, OfReport, PageOptions, ReadFailure, Reports, Request, ServeStreams, ServiceMayFail, SessionLeaves, ShowHelp, ShowVersion, Success, TestRuns, Unclear, VersionLeaves, WriteFailure, WritesUpTo, sources_of, status_of}
 use Rattle.app_host.proofs.FilesRead.{up_to_weaker}
 use Rattle.app_host.proofs.JsonReports.{weaker_said_of_json}
 use Rattle.app_host.specs.FileSources.{bytes_in}
@@ -522,6 +522,9 @@ module _ (input : Source) (files : List ℕ → File) (connections : Place → S
   ran (TestRuns options wishes runs) = by_rule _ _ status old new errors_old errors_new
       (λ ending h. inr (test_left files options wishes runs old new ending h))
   ran (InferDocument streams) = λ h. inr h
+  ran (JudgeLines options fail_on) = by_rule _ _ status old new errors_old errors_new (λ ending h. inr h)
+  ran (BundleRuns runs) = by_rule _ _ status old new errors_old errors_new (λ ending h. inr h)
+  ran MergeLines = λ h. inr h
   ran ShowHelp = by_rule _ _ status old new errors_old errors_new (help_left old new)
   ran ShowVersion = by_rule _ _ status old new errors_old errors_new (version_left old new)
   ran Unclear = by_rule _ _ status old new errors_old errors_new (misuse_left old new)

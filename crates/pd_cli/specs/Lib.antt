@@ -5,3 +5,4 @@ pub mod Explained
 pub mod TimeLimits
 pub mod Runs
 pub mod RunCases
+pub mod RunPages

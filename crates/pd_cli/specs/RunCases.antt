@@ -5,7 +5,7 @@ use Rattle.std.specs.Io.KnownBytes.{Keeps}
 use Rattle.clap.specs.Words.{Text}
 use Rattle.def_judgement.specs.Writes.{Source}
 use Rattle.app_arguments.specs.Arguments.{AsksFor}
-use Rattle.app_arguments.specs.Statuses.{CheckFiles, DrawFiles, Ending, Ends, ExploreFiles, Failed, File, HelpLeaves, InferDocument, JudgeFiles, JudgeInput, JudgementLeaves, LeavesOf, MayBeUnread, MemoryFailure, MisuseLeaves, OfConnections, OfFinding, OfNamed, Request, ServeStreams, ServiceMayFail, SessionLeaves, ShowHelp, ShowVersion, TestRuns, Unclear, UnreadClaim, VersionLeaves, sources_of}
+use Rattle.app_arguments.specs.Statuses.{CheckFiles, DrawFiles, Ending, Ends, ExploreFiles, Failed, File, HelpLeaves, BundleRuns, InferDocument, JudgeFiles, JudgeInput, JudgeLines, JudgementLeaves, LeavesOf, MayBeUnread, MemoryFailure, MergeLines, MisuseLeaves, OfConnections, OfFinding, OfNamed, Request, ServeStreams, ServiceMayFail, SessionLeaves, ShowHelp, ShowVersion, TestRuns, Unclear, UnreadClaim, VersionLeaves, sources_of}
 use Rattle.pd_cli.specs.ShownDrawings.{EndsShown}
 use Rattle.pd_cli.specs.Explorations.{ExplorationLeaves}
 use Rattle.app_host.specs.Formats.{OfFormat}
@@ -13,6 +13,9 @@ use Rattle.app_arguments.specs.Places.{Place}
 use Rattle.app_serve.specs.Kept.{WritesFiles}
 use Rattle.app_infer.specs.Inferences.{EndsInferred}
 use Rattle.app_test.specs.Tests.{TestLeaves}
+use Rattle.app_batch.specs.Batches.{BatchLeaves}
+use Rattle.app_bundle.specs.Bundles.{BundleLeaves}
+use Rattle.app_merge.specs.Merges.{EndsMerged}
 
 -- a run with this exit status came to some end, by which this is left on the output and on the errors
 abbrev pub By : (IsLeft : Ending → (old new : Option (List ℕ)) → Type 0) → (status : ℕ)
@@ -41,6 +44,9 @@ Leaves input files connections network_serves (ExploreFiles options fail_on page
 Leaves input files connections network_serves (TestRuns options wishes runs) =
     By (TestLeaves files options wishes runs)
 Leaves input files connections network_serves (InferDocument streams) = EndsInferred files streams
+Leaves input files connections network_serves (JudgeLines options fail_on) = By (BatchLeaves input options fail_on)
+Leaves input files connections network_serves (BundleRuns runs) = By (BundleLeaves files runs)
+Leaves input files connections network_serves MergeLines = EndsMerged input
 Leaves input files connections network_serves ShowHelp = By HelpLeaves
 Leaves input files connections network_serves ShowVersion = By VersionLeaves
 Leaves input files connections network_serves Unclear = By MisuseLeaves

@@ -9,13 +9,16 @@ use Rattle.def_judgement.specs.Findings.{names_asked}
 use Rattle.def_judgement.specs.Writes.{IsBrokenOff, IsFindingTextOf, IsTextOfBundle, IsTooLong, Source, Whole, Writes}
 use Rattle.app_arguments.specs.Conditions.{is_asked_for}
 use Rattle.app_arguments.specs.Places.{Place}
-use Rattle.app_arguments.specs.Statuses.{Alarm, BundleFailure, CheckFiles, DrawFiles, Ending, ExploreFiles, Failed, File, InferDocument, IsTextOfAccepted, JudgeFiles, JudgeInput, MayBeUnread, MemoryFailure, Misuse, Negative, NetworkFailure, NoPredicate, OfClaim, OfDocument, ReadFailure, Request, ServeStreams, ShowHelp, ShowVersion, Success, TestRuns, Unclear, WriteFailure, WritesUpTo, line_of_failure, sources_of, status_of_failure}
+use Rattle.app_arguments.specs.Statuses.{Alarm, BundleFailure, BundleRuns, CheckFiles, DrawFiles, Ending, ExploreFiles, Failed, File, InferDocument, IsTextOfAccepted, JudgeFiles, JudgeInput, JudgeLines, MayBeUnread, MemoryFailure, MergeLines, Misuse, Negative, NetworkFailure, NoPredicate, OfClaim, OfDocument, ReadFailure, Request, ServeStreams, ShowHelp, ShowVersion, Success, TestRuns, Unclear, WriteFailure, WritesUpTo, line_of_failure, sources_of, status_of_failure}
 use Rattle.judge_runs.specs.Runs.{Fail, NotJudged, Run, count_of, verdict_of_run}
 use Rattle.judge_runs.specs.Wishes.{Condition, lacks_name}
 use Rattle.app_host.specs.FileSources.{bytes_in}
 use Rattle.app_host.specs.Formats.{IsFormatted}
 use Rattle.app_infer.specs.Inferences.{EndsInferred}
 use Rattle.app_test.specs.Tests.{IsTestText}
+use Rattle.app_batch.specs.Batches.{BatchLeaves}
+use Rattle.app_bundle.specs.Bundles.{BundleLeaves}
+use Rattle.app_merge.specs.Merges.{EndsMerged}
 use Rattle.pd_cli.specs.ShownDrawings.{EndsShown}
 use Rattle.pd_cli.specs.Explorations.{IsNotesFile, IsOwedWith}
 
@@ -141,6 +144,9 @@ Leaves input files connections network_serves (ExploreFiles options fail_on page
 Leaves input files connections network_serves (TestRuns options wishes runs) =
     By (λ ending. LeavesText (IsTestAt files options wishes runs ending) ending)
 Leaves input files connections network_serves (InferDocument streams) = EndsInferred files streams
+Leaves input files connections network_serves (JudgeLines options fail_on) = By (BatchLeaves input options fail_on)
+Leaves input files connections network_serves (BundleRuns runs) = By (BundleLeaves files runs)
+Leaves input files connections network_serves MergeLines = EndsMerged input
 Leaves input files connections network_serves ShowHelp = By (λ ending old new. EndsBy Success ending)
 Leaves input files connections network_serves ShowVersion =
     By (λ ending old new. EndsBy Success ending × LeavesText (λ text. text ≡ codes "monitor 1.0.0\n") ending old new)

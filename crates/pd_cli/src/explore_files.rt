@@ -176,7 +176,7 @@ fn stream_file<'a, Y: System>(
 ///
 /// # Errors
 /// Out of memory.
-fn stream_files<'a, Y: System>(
+pub(crate) fn stream_files<'a, Y: System>(
     world: &World<'_, Y>,
     names: &[&'a str],
 ) -> Result<Vec<StreamFile<'a>>, AllocError>

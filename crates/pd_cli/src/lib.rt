@@ -23,6 +23,10 @@
 //! - `wished`: looks up the predicates that conditions and wishes name
 //! - `page_extras`: what a page has beside its session, by what is asked for
 //! - `explore_files`: explores the session in files
+//! - `run_page`: the page of a recorded run
+//! - `page_names`: the names of the pages of recorded runs
+//! - `pages`: writes the pages of recorded runs that fail
+//! - `test_files`: tests recorded runs, and writes the pages of those that fail
 //! - `explaining`: whether the arguments ask for explanations
 //! - `time_limit`: how many seconds a run may take, by the arguments
 //! - `explanation`: writes an explanation to the errors
@@ -36,8 +40,12 @@ mod explaining;
 mod explanation;
 mod explore_files;
 mod page_extras;
+mod page_names;
+mod pages;
 mod parser_error;
 mod program;
+mod run_page;
+mod test_files;
 mod time_limit;
 mod whole_files;
 mod wished;

@@ -12,7 +12,10 @@ ghost use Rattle.app_arguments.specs.ConditionViews.{fail_on_view};
 ghost use Rattle.app_arguments.specs.Statuses.{Ends, JudgeInput, JudgementLeaves, LeavesOf, MayBeUnread, OfConnections, OfFinding, OfNamed, ServiceMayFail, SessionLeaves, UnreadClaim, sources_of};
 ghost use Rattle.app_arguments.specs.Views.{format_view, names_view, page_view, session_view};
 ghost use Rattle.app_host.specs.Formats.{OfFormat};
+ghost use Rattle.app_batch.specs.Batches.{BatchLeaves};
+ghost use Rattle.app_bundle.specs.Bundles.{BundleLeaves};
 ghost use Rattle.app_infer.specs.Inferences.{EndsInferred};
+ghost use Rattle.app_merge.specs.Merges.{EndsMerged};
 ghost use Rattle.app_test.specs.Tests.{TestLeaves};
 ghost use Rattle.judge_runs.specs.Views.{wishes_view};
 ghost use Rattle.def_judgement.specs.Writes.{WritesTruthOfBundle};
@@ -23,8 +26,14 @@ use super::bundle::judge_input;
 use super::draw_files::{draw_noted, report_drawing};
 use super::explanation::write_explanation;
 use super::explore_files::explore_files;
+use super::pages::Pages;
 use super::parser_error::report_parser_error;
-use app_arguments::{Format, Judgement, PageOptions, Request, Service, SessionNames, Test, parse};
+use super::test_files::test_files;
+use app_arguments::{
+    Batch, Format, Judgement, PageOptions, Request, Service, SessionNames, Test, parse,
+};
+use app_batch::{Asked, batch_lines, batch_text};
+use app_bundle::{bundle_runs, bundled_text};
 use app_ends::{
     bundle_text, check_text, drawing_text, exploration_text, judgement_text, notes_to_draw,
 };
@@ -33,8 +42,9 @@ use app_host::{
     report_bundle, report_end, report_judgement,
 };
 use app_infer::{infer_files, infer_text, report_infer};
+use app_merge::{merge_lines, merge_text, report_merge};
 use app_serve::{Host, Peers, report_service_end, serve, service_text};
-use app_test::{report_test, test_runs, test_text};
+use app_test::{report_test, test_text};
 use out_picture::DrawOptions;
 use pd_engine::ByteSource;
 use std::alloc::Global;
@@ -188,9 +198,9 @@ fn run_test<Y: System, O: Write, E: Write>(
         (O.contents output.old) (O.contents output.new)) result start (E.contents errors.new)) (E.contents errors.old) }
 {
     let gate = LevelGate::new(world.files);
-    let (options, wishes, workers) = (&test.options, &test.wishes, &test.workers);
-    let end = test_runs(world, &test.runs, options, wishes, workers, &gate, output);
-    let text = test_text(world, &end);
+    let mut pages = Pages::new(world.alloc, test.pages);
+    let end = test_files(world, test, &gate, &mut pages, output);
+    let text = test_text(world, &end, pages.end());
     write_explanation(world.explain, &text, errors);
     report_test(&end, errors)
 }
@@ -210,6 +220,65 @@ fn run_infer<Y: System, O: Write, E: Write>(
     let text = infer_text(world, streams, &end);
     write_explanation(world.explain, &text, errors);
     report_infer(&end, errors)
+}
+
+/// Judges the sessions in the lines of the input, and gives the exit status.
+fn run_batch<Y: System, I: ByteSource + Drop, O: Write, E: Write>(
+    world: &World<'_, Y>,
+    input: I,
+    batch: &Batch<'_>,
+    output: &mut O,
+    errors: &mut E,
+) -> u8
+    requires { I.has_ended input ≡ false }
+    ensures { Explained world.now.explain (λ start. Ends (λ ending. BatchLeaves (I.left input)
+        (options_view batch.now.options) (fail_on_view batch.now.fail_on) ending (O.contents output.old)
+        (O.contents output.new)) result start (E.contents errors.new)) (E.contents errors.old) }
+{
+    let asked = Asked {
+        options: &batch.options,
+        fail_on: &batch.fail_on,
+        workers: batch.workers.count(),
+    };
+    let jobs = batch.jobs.count();
+    let end = batch_lines(world.rt, world.alloc, input, &asked, jobs, output);
+    let text = batch_text(world, &end);
+    write_explanation(world.explain, &text, errors);
+    report_test(&end, errors)
+}
+
+/// Writes recorded runs as sessions in lines, and gives the exit status.
+fn run_bundling<Y: System, O: Write, E: Write>(
+    world: &World<'_, Y>,
+    runs: &[&str],
+    output: &mut O,
+    errors: &mut E,
+) -> u8
+    ensures { Explained world.now.explain (λ start. Ends (λ ending. BundleLeaves
+        (Y.Files.file_of world.now.files.now) (names_view runs.now) ending (O.contents output.old)
+        (O.contents output.new)) result start (E.contents errors.new)) (E.contents errors.old) }
+{
+    let end = bundle_runs(world, runs, output);
+    let text = bundled_text(world, &end);
+    write_explanation(world.explain, &text, errors);
+    report_end(&end, errors)
+}
+
+/// Writes the summary of the lines of the input, and gives the exit status.
+fn run_merge<Y: System, I: ByteSource + Drop, O: Write, E: Write>(
+    world: &World<'_, Y>,
+    input: I,
+    output: &mut O,
+    errors: &mut E,
+) -> u8
+    requires { I.has_ended input ≡ false }
+    ensures { Explained world.now.explain (λ start. EndsMerged (I.left input) result (O.contents output.old)
+        (O.contents output.new) start (E.contents errors.new)) (E.contents errors.old) }
+{
+    let end = merge_lines(world, input, output);
+    let text = merge_text(world, &end);
+    write_explanation(world.explain, &text, errors);
+    report_merge(&end, errors)
 }
 
 /// Judges the bundle on the input, and gives the exit status.
@@ -258,6 +327,9 @@ fn run_arguments<Y: System, I: ByteSource + Drop, O: Write, E: Write>(
         }
         Ok(Request::Test(test)) => { run_test(world, &test, output, errors) }
         Ok(Request::Infer(streams)) => run_infer(world, &streams, output, errors),
+        Ok(Request::Batch(batch)) => run_batch(world, input, &batch, output, errors),
+        Ok(Request::BundleRuns(runs)) => run_bundling(world, &runs, output, errors),
+        Ok(Request::Merge) => run_merge(world, input, output, errors),
         Err(error) => report_parser_error(&error, output, errors),
     }
 }
@@ -281,9 +353,11 @@ fn without_first(arguments: &[String]) -> &[String]
 /// these and writes the page on which their run is explored, or the page of a refusal, to `output`; these three answer
 /// predicates beyond the width where they are decided, and fail on answers, if that is asked for; `test`, with the
 /// names of folders with recorded runs, judges each and writes to `output` which of them are not as wished; `infer`,
-/// with the names of streams, writes their first document to `output`; the help that they ask for is written to
-/// `output`, and what is wrong with them to `errors`. `errors` also has one line for each fault, and before it an
-/// explanation if one is wanted, as `explain` says; what of it can't be written is left off.
+/// with the names of streams, writes their first document to `output`; `batch` judges the sessions in the lines of
+/// `input`, `bundle`, with the names of folders with recorded runs, writes such lines, and `merge` writes the summary
+/// of what `batch` wrote from `input`; the help that they ask for is written to `output`, and what is wrong with them
+/// to `errors`. `errors` also has one line for each fault, and before it an explanation if one is wanted, as `explain`
+/// says; what of it can't be written is left off.
 pub fn run<
     S: RandomSource + Threads + Wait + Sync,
     F: FileSource,

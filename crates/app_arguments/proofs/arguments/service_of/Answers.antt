@@ -3,7 +3,7 @@ use Rattle.std.proofs.Common.{◌≤◌, ℕ, codes}
 use Rattle.app_arguments.specs.Arguments.{NamesNumber}
 use Rattle.app_arguments.specs.Table.{watcher_limit}
 use Rattle.app_arguments.specs.Views.{rows_in}
-use Rattle.app_arguments.proofs.Numbers.{finds_none, no_workers}
+use Rattle.app_arguments.proofs.Numbers.{finds_none, no_threads}
 use Rattle.app_arguments.proofs.arguments.service_of.Goals as goal
 
 pub returns-in_default-watchers_of-clause-found : goal.returns-in_default-watchers_of-clause-found
@@ -15,7 +15,8 @@ returns-in_default-watchers_of-clause-found c document place port_file watchers 
 
 pub returns-in_default-workers_of-clause-found : goal.returns-in_default-workers_of-clause-found
 returns-in_default-workers_of-clause-found c document place port_file watchers wait keep names some =
-    no_workers (rows_in c.args.matches.now) c.workers_of.result c.workers_of.ensures c.in_default-workers_of.is some
+    no_threads (rows_in c.args.matches.now) (codes "WORKERS") c.workers_of.result c.workers_of.ensures
+    c.in_default-workers_of.is some
 
 pub returns-in_default-admission_of-clause-found : goal.returns-in_default-admission_of-clause-found
 returns-in_default-admission_of-clause-found c document place port_file watchers wait keep names some =

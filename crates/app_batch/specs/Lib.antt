@@ -1,0 +1,5 @@
+-- The modules of definitions of this crate.
+pub mod Answers
+pub mod Batches
+pub mod Rounds
+pub mod Views

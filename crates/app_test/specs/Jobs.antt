@@ -1,0 +1,64 @@
+-- What comes of runs whose files are open.
+use Rattle.std.specs.Prelude.{◌≡◌, ⊤, ℕ, Bool, false, All, List, [], ◌∷◌, map, Result, Ok, Err}
+use Rattle.std.specs.List.{AllZip}
+use Rattle.def_format.specs.Documents.{Options, inquiry_of}
+use Rattle.def_format.specs.Reports.{Report}
+use Rattle.def_judgement.specs.Writes.{Source}
+use Rattle.app_arguments.specs.Statuses.{File}
+use Rattle.judge_runs.specs.Runs.{Outcome, Reported, Run}
+use Rattle.judge_runs.specs.Views.{outcome_view}
+use Rattle.judge_runs.specs.Wishes.{Condition}
+use Rattle.judge_runs.specs.declared.outcome.Outcome as outcomes
+use Rattle.judge_session.specs.declared.fault.EngineFault.{EngineFault}
+use Rattle.judge_session.specs.declared.fault.EngineFault.TheVariants.{Memory}
+use Rattle.pd_engine.specs.SessionReports.{IsTrueReportOfInputs}
+use Rattle.app_test.specs.Tests.{IsOutcome, IsReadOutcome}
+use Rattle.app_test.specs.declared.job.Job.{Job}
+use Rattle.app_test.specs.declared.job.Job.TheVariants as jobs
+
+-- nothing is read yet of the streams
+abbrev pub IsReady : {R : Type 0} (has_ended : R → Bool) → Job R → Type 0
+IsReady has_ended (jobs.Done outcome) = ⊤
+IsReady has_ended (jobs.Judge document streams) = All (λ stream. has_ended stream ≡ false) streams.items
+
+-- What comes of it: what is known already, or the report of the document, with what is asked, and of the streams.
+abbrev pub IsOutcomeOfJob : {R : Type 0} (left : R → Source) (options : Options) → Job R → Outcome → Type 0
+IsOutcomeOfJob left options (jobs.Done known) outcome = outcome ≡ outcome_view known
+IsOutcomeOfJob left options (jobs.Judge document streams) outcome =
+    (report : Report) × (outcome ≡ Reported report)
+    × IsTrueReportOfInputs (inquiry_of options document.items) (map left streams.items) report
+
+-- the same of a result, whose one fault is that memory ran out
+abbrev pub IsResultOfJob : {R : Type 0} (left : R → Source) (options : Options) → Job R
+    → Result outcomes.Outcome EngineFault → Type 0
+IsResultOfJob left options job (Ok outcome) = IsOutcomeOfJob left options job (outcome_view outcome)
+IsResultOfJob left options job (Err fault) = fault ≡ Memory
+
+-- the results of jobs, in their order
+abbrev pub AreOutcomesOfJobs : {R : Type 0} (left : R → Source) (options : Options) → List (Job R)
+    → List (Result outcomes.Outcome EngineFault) → Type 0
+AreOutcomesOfJobs left options jobs results = AllZip (IsResultOfJob left options) jobs results
+
+-- whatever comes of the job comes of the run in this folder
+abbrev pub IsJobOf : {R : Type 0} (left : R → Source) (files : List ℕ → File) (options : Options)
+    (wishes : List Condition) (folder : List ℕ) → Job R → Type 0
+IsJobOf left files options wishes folder job =
+    (outcome : Outcome) → IsOutcomeOfJob left options job outcome → IsOutcome files options wishes folder outcome
+
+-- whatever comes of the job comes of the run by these bytes of its document
+abbrev pub IsReadJob : {R : Type 0} (left : R → Source) (files : List ℕ → File) (options : Options)
+    (wishes : List Condition) (folder document : List ℕ) → Job R → Type 0
+IsReadJob left files options wishes folder document job =
+    (outcome : Outcome) → IsOutcomeOfJob left options job outcome
+    → IsReadOutcome files wishes folder (inquiry_of options document) outcome
+
+-- ---- the runs
+
+-- the run in this folder, of which this comes
+abbrev pub run_of : (folder : List ℕ) → outcomes.Outcome → Run
+run_of folder outcome = record { folder = folder; outcome = outcome_view outcome }
+
+-- the runs in these folders by their results, up to the first of which nothing is known
+abbrev pub runs_of : (folders : List (List ℕ)) → List (Result outcomes.Outcome EngineFault) → List Run
+runs_of (folder ∷ folders) (Ok outcome ∷ results) = run_of folder outcome ∷ runs_of folders results
+runs_of _ _ = []

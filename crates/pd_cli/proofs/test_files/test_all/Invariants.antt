@@ -1,0 +1,19 @@
+-- The first runs are tested.
+use Rattle.std.proofs.Common.{◌-◌, ◌≤◌, drop, length}
+use Rattle.app_arguments.specs.Views.{names_view}
+use Rattle.judge_runs.specs.Views.{wishes_view}
+use Rattle.pd_spec.specs.Views.{options_view}
+use Rattle.pd_cli.proofs.TestsSoFar.{IsTestedTo}
+use Rattle.pd_cli.proofs.test_files.test_all.Given as goal
+
+abbrev pub invariant-loop-from : goal.invariant-loop-from
+invariant-loop-from g l = record {
+  tested : IsTestedTo (g.Y.Files.FileSource.file_of l.world.files.now) (options_view l.test.options)
+      (wishes_view l.test.wishes.items) (names_view l.test.runs.items)
+      (drop l.from (names_view l.test.runs.items)) l.tally (g.O.Write.contents l.fn.output)
+      (g.O.Write.contents l.output);
+  within : l.from ≤ length l.test.runs.items;
+}
+
+abbrev pub decreases-loop-from : goal.decreases-loop-from
+decreases-loop-from g l = length l.test.runs.items - l.from
