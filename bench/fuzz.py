@@ -11,6 +11,8 @@ crates/monitor/out/monitor if it isn't given. The targets, each for N seconds on
     check      a report, true or damaged; of a true one no evidence is bad
     explore    the document and the streams: a page whose scripts are the page's own
     draw       the same and a report: a picture that is XML, or what stands against it
+    batch      sessions in lines: a line of each, the one that `judge` would write, or why it is no session
+    merge      answers and summaries: the same summary however they are shared, or the first line that is neither
     importers  the importers, monitor_mend, monitor_infer and monitor_reduce: a session or a named refusal, and no
                other exception
 
@@ -27,10 +29,11 @@ import time
 
 import fuzz_importers
 import fuzz_inputs
+import fuzz_lines
 import fuzz_program
 
 DEFAULT = os.path.join(fuzz_inputs.ROOT, "crates", "monitor", "out", "monitor")
-TARGETS = {**fuzz_program.TARGETS, "importers": fuzz_importers.Importers}
+TARGETS = {**fuzz_program.TARGETS, **fuzz_lines.TARGETS, "importers": fuzz_importers.Importers}
 # So many failures of a target are enough.
 MOST_WRONG = 5
 

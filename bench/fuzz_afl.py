@@ -9,12 +9,12 @@ other two programs a minute each at most of the inputs that it kept, the last on
 program for AFL++ is built.
 
 Nothing of these is proved; they are built as by bench/unproved.py. The targets: `bundle`, a bundle on the standard
-input; `check`, a report; `explore` and `draw`, a stream; `notes`, a file of notes for an explanation; and `infer`, a
-stream. Seeds and a dictionary are made of cases/. What is wrong is an input that crashes the program, and does so again
-if it is tried once more, for which it doesn't end in two minutes, or at which a sanitizer says something; it is kept in
-FOLDER, or in fuzz-found by the gate, and the status is 1 if there is any. It needs Debian's afl++ and, for the two
-sanitizers, clang-14, whose runtimes are linked. The importers, which are in Python, are a target of bench/fuzz.py
-(bench/fuzz_importers.py)."""
+input; `check`, a report; `explore` and `draw`, a stream; `notes`, a file of notes for an explanation; `infer`, a
+stream; `batch`, sessions in lines; and `merge`, answers and summaries. Seeds and a dictionary are made of cases/. What
+is wrong is an input that crashes the program, and does so again if it is tried once more, for which it doesn't end in
+two minutes, or at which a sanitizer says something; it is kept in FOLDER, or in fuzz-found by the gate, and the status
+is 1 if there is any. It needs Debian's afl++ and, for the two sanitizers, clang-14, whose runtimes are linked. The
+importers, which are in Python, are a target of bench/fuzz.py (bench/fuzz_importers.py)."""
 import argparse
 import concurrent.futures
 import glob
@@ -26,6 +26,7 @@ import subprocess
 import sys
 import tempfile
 import time
+import tomllib
 
 import fuzz_inputs
 import unproved
@@ -49,11 +50,12 @@ DOCUMENT, LEFT, RIGHT = (os.path.join(EXAMPLE, name) for name in ("session.json"
 # The words of each target; @@ stands for the input's file, and without it the input comes on the standard input.
 TARGETS = {"bundle": [], "check": ["check", DOCUMENT, "@@", LEFT, RIGHT], "explore": ["explore", DOCUMENT, LEFT, "@@"],
            "draw": ["draw", DOCUMENT, LEFT, "@@"],
-           "notes": ["judge", "--explain", "--notes", "@@", DOCUMENT, LEFT, RIGHT], "infer": ["infer", LEFT, "@@"]}
+           "notes": ["judge", "--explain", "--notes", "@@", DOCUMENT, LEFT, RIGHT], "infer": ["infer", LEFT, "@@"],
+           "batch": ["batch"], "merge": ["merge"]}
 SEEDS = 60
 # In the gate each target has fewer seeds, which AFL++ runs several times each before it begins, and so many seconds of
 # each program.
-GATE_SEEDS, GATE_SECONDS = 12, 10
+GATE_SEEDS, GATE_SECONDS = 12, 7
 FOUND = "fuzz-found"
 # So many of the inputs that were kept are given to the other programs, which may take so many seconds for each.
 KEPT, SECONDS = 200, 120
@@ -98,6 +100,13 @@ def notes_of(session):
                    + "\n" for process in ("left", "right", "up") for number in (1, 2)).encode()
 
 
+def lines_for(command):
+    """The inputs of the runs of a command in the cases of sessions in lines."""
+    with open(os.path.join(unproved.ROOT, "cases", "batch.toml"), "rb") as file:
+        runs = tomllib.load(file)["run"]
+    return [fuzz_inputs.data(run["input"]) for run in runs if run["words"][0] == command and "input" in run]
+
+
 def write_seeds(folder, most):
     """Writes the seeds of each target, no more than so many, and the dictionary."""
     sessions = fuzz_inputs.sessions()
@@ -105,7 +114,8 @@ def write_seeds(folder, most):
     with open(RIGHT, "rb") as file:
         streams.append(file.read())
     texts = {"bundle": [session.bundle() for session in sessions], "check": [session.report for session in sessions],
-             "explore": streams, "draw": streams, "infer": streams, "notes": [notes_of(one) for one in sessions]}
+             "explore": streams, "draw": streams, "infer": streams, "notes": [notes_of(one) for one in sessions],
+             "batch": lines_for("batch"), "merge": lines_for("merge")}
     for target, inputs in texts.items():
         shutil.rmtree(os.path.join(folder, f"seeds-{target}"), ignore_errors=True)
         os.makedirs(os.path.join(folder, f"seeds-{target}"))
@@ -120,9 +130,11 @@ def write_seeds(folder, most):
 def ends(folder, variant, target, path, more=()):
     """The status of a program for this input, or none if it doesn't end in time; with more settings of its own."""
     words = [path if word == "@@" else word for word in TARGETS[target]]
-    # With threads it is given several workers.
+    # With threads it is given several workers, or several jobs.
     if variant == "thread" and ("explore" in words or "judge" in words):
         words += ["--workers", "3"]
+    if variant == "thread" and "batch" in words:
+        words += ["--jobs", "3"]
     command = [os.path.join(folder, f"monitor-{variant}"), *words]
     try:
         with open(path, "rb") as given:

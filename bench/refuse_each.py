@@ -7,12 +7,12 @@ its run is explored; and its streams are served, with a watcher. Small sessions 
 one with messages, which is also served and kept, served to those who join with a token, and given as a bundle with
 these commands, one with a causal cycle, one with wide levels, and one of sixteen processes; and one of width 1, that is
 judged and served with these two options alone, has predicates for each way to answer, and is judged once with others in
-their place. For each of these runs and each N, counted upward until a run meets no refusal, the program runs with its
-Nth allocation refused; then with its Nth read or receipt failing, its Nth write, what it sends to a watcher, its Nth
-opened file, accepted connection, folder that is made and file that is renamed; and with the Nth of all these, and of
-its sleeps, failing as one does that a signal interrupts. Before these it runs once with each allocation slow: a thread
-that asks for memory under a lock lets the others wait for the lock meanwhile, so an unlock that wakes nobody leaves a
-run without an end.
+their place. Some of them are given as lines and as recorded runs too, see refuse_lines.py. For each of these runs and
+each N, counted upward until a run meets no refusal, the program runs with its Nth allocation refused; then with its Nth
+read or receipt failing, its Nth write, what it sends to a watcher, its Nth opened file, accepted connection, folder
+that is made and file that is renamed; and with the Nth of all these, and of its sleeps, failing as one does that a
+signal interrupts. Before these it runs once with each allocation slow: a thread that asks for memory under a lock lets
+the others wait for the lock meanwhile, so an unlock that wakes nobody leaves a run without an end.
 
 It must end as a run that is refused nothing; or, for an allocation, with status 4, nothing on standard output and
 `monitor: memory` on standard error; for a read, with status 3 and `monitor: read`, or with what is made of a stream
@@ -29,7 +29,6 @@ gcc.
 
 Each server listens on an address of its own, so it makes no difference which ports other programs use meanwhile."""
 import concurrent.futures
-import json
 import os
 import random
 import re
@@ -41,6 +40,7 @@ import tempfile
 import threading
 import time
 
+import refuse_lines
 from refusals import address_of, asked_for, make_shim, surroundings
 
 # The processes of a session with their variables, its predicates, and the events of each process.
@@ -81,8 +81,6 @@ UNREAD = re.compile(rb"refused stream \d+ line \d+ read\n|refused bad\n|")
 SHOWN = re.compile(rb"(stream \d+ process \S+ events \d+ (fresh|joined|ended|faulted)\n)*")
 # A refusal in a page, before its explanation, and the rest of its data.
 REFUSAL = re.compile(rb'"refusal":\["(refused [^"\\]*)\\u000a","[^"]*"\]\}\n')
-# What a page says of the files and the lines of its events.
-SOURCES = re.compile(rb'\n"sources":(\[.*\]),\n')
 AGAINST = re.compile(rb"(monitor: no picture, for a check finds:\nrefused bad\n)?")
 # How long a watcher waits for a server that may show it nothing before the streams are sent, and how long a run may
 # take.
@@ -256,15 +254,13 @@ def is_explained_less(ended, want):
 
 def lacks_lines(ended, want):
     """Whether this is a page without the lines of a file that was read once and not a second time."""
-    given, wanted = SOURCES.search(ended[1]), SOURCES.search(want[1])
-    if not given or not wanted or (ended[0], ended[2]) != (want[0], want[2]):
-        return False
-    same = SOURCES.sub(b"", ended[1]) == SOURCES.sub(b"", want[1])
-    return same and all(one in (other, ["", []]) for one, other in zip(json.loads(given[1]), json.loads(wanted[1])))
+    return (ended[0], ended[2]) == (want[0], want[2]) and refuse_lines.lacks_lines(ended[1], want[1])
 
 
-def is_right(kind, ended, want):
+def is_right(arguments, kind, ended, want):
     """Whether a run that was refused a call ended as it may; what it gives with no refusal is `want`."""
+    if arguments[1:] and arguments[1] in refuse_lines.COMMANDS:
+        return refuse_lines.is_right(arguments[1], kind, ended, want)
     if len(ended) > 3 and not (is_shown(kind, ended[3], want[3]) and is_kept(ended[4], want[4], ended[1])):
         return False
     if ended[:3] == want[:3]:
@@ -327,7 +323,7 @@ def refuse_each(name, take, arguments, given, folder):
             ended, made = take(arguments, given, folder, number, kind)
             runs += 1
             is_late = joins_first(arguments) and ended[:3] == (3, b"", NO_NETWORK)
-            if not is_late and not is_right(kind, ended, want):
+            if not is_late and not is_right(arguments, kind, ended, want):
                 wrong.append(f"{name}: {kind} {number}: {ended}")
     return runs, wrong
 
@@ -342,8 +338,11 @@ def main():
             os.mkdir(inputs[name])
             write_session(inputs[name], *session)
         found = []
-        for name, how, *one in [(name, *one) for name, path in inputs.items()
-                                for one in runs_of(program, name, path)]:
+        runs = [(name, *one) for name, path in inputs.items() for one in runs_of(program, name, path)]
+        lines = os.path.join(folder, "lines")
+        os.mkdir(lines)
+        runs += [("lines", *one) for one in refuse_lines.runs_of(program, lines, inputs, run)]
+        for name, how, *one in runs:
             own = tempfile.mkdtemp(dir=folder)
             os.link(os.path.join(folder, "shim.so"), os.path.join(own, "shim.so"))
             found.append(pool.submit(refuse_each, f"{name}: {how}".strip(": "), *one, own))

@@ -2,9 +2,9 @@
 """times.py [PROGRAM]: limits the time of runs of each command by --max-time, and looks how they end.
 
 PROGRAM is ../crates/monitor/out/monitor if it isn't given. Runs that would take minutes, or wait for ever, have to end
-with status 6, having written nothing; quick ones have to write what they write without the option; and one that has
-begun to write its page has to write it to its end. No case needs the machine to be quick. The last line says how many
-cases there are, and how many differ; the status is 1 if any does.
+with status 6, having written nothing, or the lines of what was done; quick ones have to write what they write without
+the option; and one that has begun to write its page has to write it to its end. No case needs the machine to be quick.
+The last line says how many cases there are, and how many differ; the status is 1 if any does.
 """
 import argparse
 import concurrent.futures
@@ -53,6 +53,15 @@ def write_long(folder):
             out.write(text)
 
 
+def session_line(paths):
+    """The session of these files as a line."""
+    texts = []
+    for path in paths:
+        with open(path, encoding="ascii") as file:
+            texts.append(file.read())
+    return json.dumps({"document": texts[0], "streams": texts[1:]}) + "\n"
+
+
 class Runs:
     """The program, and a folder with the long session."""
 
@@ -90,6 +99,11 @@ class Runs:
         yield "a server, explained", lambda: self.explained(["serve", SESSION, "--port", "0", "--port-file",
                                                              os.path.join(self.folder, "other")]), (6, "", True)
         yield "test", self.tested, (6, True, LINE)
+        for jobs in ("1", "2"):
+            yield f"batch, jobs {jobs}", lambda jobs=jobs: self.batched(jobs), (6, True, LINE)
+        yield "bundle", self.bundled, (6, True, LINE)
+        yield "batch, of lines that don't end", lambda: self.end(["--max-time", "1", "batch"]), (6, "", LINE)
+        yield "merge, of lines that don't end", lambda: self.end(["--max-time", "1", "merge"]), (6, "", LINE)
         for name, words, left in (
                 ("serve", ["--port", "0", "--port-file", "port", "--keep", "kept"], ["port", "kept/session.json"]),
                 ("serve at a socket", ["--socket", "socket"], ["socket"])):
@@ -127,6 +141,41 @@ class Runs:
         status, output, errors = self.end(["test", "quick", "long", "--max-time", "2"])
         return status, output.splitlines(True)[-1:] == [NO_MORE] and output.count("\n") <= 2 or output, errors
 
+    def batched(self, jobs):
+        """With one job the lines before those of long sessions are there, on a slow machine after more time; with two
+        they are judged beside these, and nothing is written."""
+        path, quick = os.path.join(self.folder, f"lines-{jobs}"), session_line((SESSION, LEFT, RIGHT))
+        wanted = ""
+        for name, text in (("-quick", quick + "no session\n"), ("", quick + "no session\n" + session_line(self.long))):
+            with open(path + name, "w", encoding="ascii") as out:
+                out.write(text + (session_line(self.long) + quick if not name else ""))
+        if jobs == "1":
+            with open(path + "-quick", encoding="ascii") as given:
+                wanted = self.end(["batch"], given)[1]
+        for seconds in ("2", "8", "32"):
+            with open(path, encoding="ascii") as given:
+                status, output, errors = self.end(["--max-time", seconds, "batch", "--jobs", jobs], given)
+            if output == wanted:
+                break
+        return status, output == wanted and bool(wanted) == (jobs == "1") or output, errors
+
+    def bundled(self):
+        """The line of the quick run is there, on a slow machine after more time; the next run is never read."""
+        os.makedirs(os.path.join(self.folder, "stuck"), exist_ok=True)
+        if not os.path.exists(pipe := os.path.join(self.folder, "stuck", "session.json")):
+            os.mkfifo(pipe)
+        wanted = self.end(["bundle", "quick"])[1]
+        for seconds in (1, 8, 32):
+            words = [self.program, "bundle", "quick", "stuck", "--max-time", str(seconds)]
+            try:
+                ran = subprocess.run(words, stdin=subprocess.DEVNULL, capture_output=True, text=True, cwd=self.folder,
+                                     timeout=seconds + SECONDS, check=False)
+            except subprocess.TimeoutExpired as late:
+                return "no end", (late.stdout or b"").decode(), ""
+            if ran.stdout:
+                break
+        return ran.returncode, ran.stdout == wanted or ran.stdout, ran.stderr
+
     def whole(self):
         """Runs that end before their time: what is run, with the option and without it."""
         given = os.path.join(self.folder, "given")
@@ -136,7 +185,8 @@ class Runs:
                     out.write("---\n" * (number > 0) + part.read())
         runs = {"judge": ["judge", SESSION, LEFT, RIGHT], "check": ["check", SESSION, REPORT, LEFT, RIGHT],
                 "draw": ["draw", SESSION, LEFT, RIGHT], "explore": ["explore", SESSION, LEFT, RIGHT],
-                "test": ["test", "quick"], "infer": ["infer", LEFT, RIGHT], "a bundle": [], "help": ["judge", "--help"],
+                "test": ["test", "quick"], "batch": ["batch"], "bundle": ["bundle", "quick", "absent"],
+                "merge": ["merge"], "infer": ["infer", LEFT, RIGHT], "a bundle": [], "help": ["judge", "--help"],
                 "a file that isn't there": ["judge", SESSION, "absent"], "the version": ["--version"],
                 "explained": ["judge", "--explain", SESSION, LEFT, RIGHT]}
         for name, words in runs.items():

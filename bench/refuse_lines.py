@@ -1,0 +1,165 @@
+"""The runs of refuse_each.py that write line by line: `batch`, `bundle`, `merge` and `test`, and how they may end.
+
+A batch has three lines: a session, junk, and a session on which it is to fail; a job of its own judges each, or two
+judge them. Two folders are bundled, of which the second has no document. What such a batch writes is merged with its
+own summary. Three runs are tested, two side by side, and each has a page.
+
+If memory is refused, the status is 4, with `monitor: memory`, and whole lines are left, the first ones; `merge` leaves
+none. If the input can't be read it is 3, with `monitor: read` and the same left, and if the output can't be written,
+3, with `monitor: write` and a prefix of the output. A file of a run that can't be opened or read is named in the line
+of this run, which is the only one that differs; or, once it was judged, its page is missing, as it is if that can't be
+written or renamed: then all lines are there, and all other pages, and the status is 3, with `monitor: write`. A page is
+whole, but for the lines of a file that can't be opened for these; what stands beside it as `.new` is a prefix of it."""
+import json
+import os
+import re
+import subprocess
+
+MEMORY, READ, WRITE = (f"monitor: {word}\n".encode() for word in ("memory", "read", "write"))
+# What a page says of the files and the lines of its events.
+SOURCES = re.compile(rb'\n"sources":(\[.*\]),\n')
+# What is said of a run of which a file can't be opened or read.
+UNTESTED = re.compile(rb"unread [^\n]+|refused stream \d+ line \d+ read")
+COUNTS = b"runs: %d, pass: %d, fail: %d, not judged: %d\n"
+# The commands whose runs are looked at here.
+COMMANDS = ("batch", "bundle", "merge", "test")
+# How long a run may take that makes the input of another one.
+SECONDS = 60
+
+
+def contents(path):
+    with open(path, "rb") as opened:
+        return opened.read()
+
+
+def session_line(name, path):
+    """The session in a folder as a line, by the order of the names of its files."""
+    files = [os.path.join(path, file) for file in sorted(os.listdir(path)) if file.endswith(".stream")]
+    streams = [contents(file).decode() for file in files]
+    document = contents(os.path.join(path, "session.json")).decode()
+    return json.dumps({"id": name, "document": document, "streams": streams}).encode() + b"\n"
+
+
+def output_of(words, given):
+    """What the program writes of this input, with nothing refused."""
+    return subprocess.run(words, input=given, capture_output=True, timeout=SECONDS, check=False).stdout
+
+
+def runs_of(program, folder, inputs, run):
+    """Each run of these commands, as `refuse_each.runs_of` gives them: of the sessions in these folders, by their
+    names, with the folder for what is made. `run` runs one; one that makes pages gives them too."""
+    def run_with_pages(arguments, given, own, number, kind):
+        pages = arguments[arguments.index("--pages") + 1]
+        for page in os.listdir(pages) if os.path.isdir(pages) else []:
+            os.unlink(os.path.join(pages, page))
+        if os.path.isdir(pages):
+            os.rmdir(pages)
+        ended, made = run(arguments, given, own, number, kind)
+        names = os.listdir(pages) if os.path.isdir(pages) else []
+        return (*ended, {name: contents(os.path.join(pages, name)) for name in names}), made
+
+    empty = os.path.join(folder, "no document")
+    os.makedirs(empty)
+    names = ("messages", "one cut alone")
+    paths = [inputs[name] for name in names]
+    first, last = (session_line(name, path) for name, path in zip(names, paths))
+    batch, three = [program, "batch", "--fail-on", "possibly"], first + b'{"document"\n' + last
+    answers = output_of(batch, three)
+    lines = answers + output_of([program, "merge"], answers) + answers
+    pages = ["--jobs", "2", "--pages", os.path.join(folder, "pages")]
+    return [("batch", run, batch, three), ("batch by two jobs", run, [*batch, "--jobs", "2"], three),
+            ("bundle", run, [program, "bundle", paths[0], empty], b""), ("merge", run, [program, "merge"], lines),
+            ("test", run, [program, "test", paths[0], empty, paths[1]], b""),
+            ("test with pages", run_with_pages, [program, "test", *pages, *paths, paths[0]], b"")]
+
+
+def is_right(command, kind, ended, want):
+    """Whether a run of this command that was refused a call ended as it may; what it gives with no refusal is
+    `want`."""
+    if len(want) > 3 and not are_pages(kind, ended, want):
+        return False
+    if ended[:3] == want[:3]:
+        return True
+    status, output, errors = ended[:3]
+    if kind == "allocation" and (status, errors) == (4, MEMORY):
+        return is_begun(output, want[1]) and not (command == "merge" and output)
+    if command in ("batch", "merge"):
+        is_unread = (status, errors) == (3, READ) and is_begun(output, want[1]) and not (command == "merge" and output)
+        return kind == "read" and is_unread or kind == "write" and is_unwritten(ended, want)
+    if kind in ("read", "open") and (is_bundled if command == "bundle" else is_tested)(ended, want):
+        return True
+    return kind == "write" and is_unwritten(ended, want) or len(want) > 3 and is_unpaged(kind, ended, want)
+
+
+def is_begun(output, whole):
+    """Whether these are the first lines of the whole output."""
+    return whole.startswith(output) and output[-1:] in (b"", b"\n")
+
+
+def is_unwritten(ended, want):
+    """Whether this is a run that couldn't write its output or its errors."""
+    status, output, errors = ended[:3]
+    if (status, errors) == (3, WRITE):
+        return want[1].startswith(output) and output != want[1]
+    return (status, output) == want[:2] and want[2].startswith(errors)
+
+
+def is_bundled(ended, want):
+    """Whether one line more names a file that isn't read."""
+    lines, wanted = ended[1].splitlines(True), want[1].splitlines(True)
+    others = [(line, due) for line, due in zip(lines, wanted) if line != due]
+    if ended[0] != 1 or ended[2] or len(lines) != len(wanted) or len(others) != 1:
+        return False
+    line, name = others[0][0], json.loads(others[0][1])["id"]
+    found = json.loads(line)
+    is_known = found.keys() == {"error", "id"} and found["id"] == name and found["error"].startswith(f"unread {name}/")
+    return is_known and line == json.dumps(found, separators=(",", ":")).encode() + b"\n"
+
+
+def is_tested(ended, want):
+    """Whether the line of one run says that a file of it isn't read, and the rest and the status are as it says."""
+    count = want[1].splitlines().index(next(line for line in want[1].splitlines() if line.startswith(b"runs: ")))
+    lines, wanted = ended[1].splitlines()[:count], want[1].splitlines()[:count]
+    others = [(line, due) for line, due in zip(lines, wanted) if line != due]
+    if len(lines) != count or len(others) != 1:
+        return False
+    name, _, text = others[0][0].partition(b": ")
+    if not UNTESTED.fullmatch(text) or not others[0][1].startswith(name + b": "):
+        return False
+    texts = [line.partition(b": ")[2] for line in lines]
+    passed, failed = texts.count(b"pass"), sum(text.startswith(b"fail: ") for text in texts)
+    due = [line + b"\n" for line in lines] + [COUNTS % (count, passed, failed, count - passed - failed)]
+    due += [b"  " + line + b"\n" for line in lines if not line.endswith(b": pass")][:5]
+    status = 5 if failed else 0 if passed == count else 1
+    return (ended[0], ended[2]) == (status, b"") and ended[1] == b"".join(due)
+
+
+def is_unpaged(kind, ended, want):
+    """Whether all lines are there, and a page couldn't be made; or the folder for them couldn't be, and nothing is."""
+    if (ended[0], ended[2]) != (3, WRITE):
+        return False
+    if ended[1] == b"":
+        return kind in ("mkdir", "allocation") and not ended[3]
+    whole = [name for name in ended[3] if not name.endswith(".new")]
+    return ended[1] == want[1] and len(whole) == len(want[3]) - 1
+
+
+def are_pages(kind, ended, want):
+    """Whether each page is whole, and each run that fails has one if nothing is said of it."""
+    for name, text in ended[3].items():
+        whole = want[3].get(name.removesuffix(".new"))
+        if whole is None:
+            return False
+        is_new = name.endswith(".new")
+        if not (whole.startswith(text) if is_new else text == whole or kind != "write" and lacks_lines(text, whole)):
+            return False
+    failing = sum(b": fail: " in line for line in ended[1].partition(b"\nruns: ")[0].splitlines())
+    return ended[0] not in (0, 1, 5) or len(ended[3]) == failing
+
+
+def lacks_lines(page, whole):
+    """Whether this is the same page without the lines of a file."""
+    given, wanted = SOURCES.search(page), SOURCES.search(whole)
+    if not given or not wanted or SOURCES.sub(b"", page) != SOURCES.sub(b"", whole):
+        return False
+    return all(one in (other, ["", []]) for one, other in zip(json.loads(given[1]), json.loads(wanted[1])))
