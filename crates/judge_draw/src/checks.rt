@@ -63,8 +63,11 @@ fn find_claimed<S: RandomSource + Threads + Wait + Sync, R: ByteSource + Send + 
     }
 }
 
-/// What is found of a report's bytes.
-fn find<S: RandomSource + Threads + Wait + Sync, R: ByteSource + Send + Drop>(
+/// What a check finds of a report's bytes: what `check_inquiry` writes.
+///
+/// # Errors
+/// `Memory`. A read that fails is a fault of its stream.
+pub fn finding_of<S: RandomSource + Threads + Wait + Sync, R: ByteSource + Send + Drop>(
     rt: &S,
     alloc: Global,
     inquiry: Inquiry<'_, '_, '_>,
@@ -140,7 +143,7 @@ pub fn check_inquiry<
     ensures err { IfErr result (λ fault. (fault ≡ EngineFault.Memory) ⊎ (fault ≡ EngineFault.Write)) }
 {
     def_judgement::clean_is_clean();
-    let finding = find(rt, alloc, inquiry, report, streams)?;
+    let finding = finding_of(rt, alloc, inquiry, report, streams)?;
     let text = text(alloc, &finding)?;
     write_all(&text, writer)?;
     Ok(finding.is_clean())

@@ -33,7 +33,7 @@ mod run;
 mod session;
 mod values;
 
-pub use checks::{check, check_inquiry};
+pub use checks::{check, check_inquiry, finding_of};
 pub use drawings::{DrawOutcome, draw};
 pub use judge_check::{Checked, Finding, Verdict};
 pub use session::{Session, read_session};

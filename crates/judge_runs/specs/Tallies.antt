@@ -1,8 +1,9 @@
 -- What a tally stands for, and the parts of the text of a test.
-use Rattle.std.specs.Prelude.{◌≡◌, ◌++◌, ◌∷◌, [], ℕ, not, List, codes, decimal, filter, flat_map, map, take}
-use Rattle.judge_runs.specs.Runs.{Pass, Run, counts_text, is_same, line_of, verdict_of_run}
+use Rattle.std.specs.Prelude.{◌≡◌, ◌++◌, ◌∷◌, [], ℕ, not, List, codes, decimal, filter, flat_map, length, map, take}
+use Rattle.judge_runs.specs.Runs.{Fail, NotJudged, Pass, Run, count_of, counts_text, is_same, line_of, verdict_of_run}
 use Rattle.judge_runs.specs.Views.{verdict_view}
 use Rattle.judge_runs.specs.Wishes.{Condition}
+use Rattle.judge_runs.specs.declared.tally.Counts.{Counts}
 use Rattle.judge_runs.specs.declared.tally.Tally.{Tally}
 
 -- ---- parts of the text
@@ -44,3 +45,10 @@ summary_text wishes runs = counts_text (map (verdict_of_run wishes) runs) ++ ind
 pub record Stands (wishes : List Condition) (runs : List Run) (tally : Tally) : Type 0 where
   pub verdicts : map verdict_view tally.verdicts.items ≡ map (verdict_of_run wishes) runs
   pub first : map (λ line. line.items) tally.first.items ≡ first_lines wishes runs
+
+-- these are the numbers of the runs, and of those with each verdict
+pub record AreCounts (wishes : List Condition) (runs : List Run) (counts : Counts) : Type 0 where
+  pub all : counts.all ≡ length (map (verdict_of_run wishes) runs)
+  pub pass : counts.pass ≡ count_of Pass (map (verdict_of_run wishes) runs)
+  pub fail : counts.fail ≡ count_of Fail (map (verdict_of_run wishes) runs)
+  pub not_judged : counts.not_judged ≡ count_of NotJudged (map (verdict_of_run wishes) runs)

@@ -20,7 +20,8 @@ mod verdict;
 mod wish;
 
 pub use conclusion::Conclusion;
+pub use line::line_of;
 pub use outcome::Outcome;
-pub use tally::Tally;
+pub use tally::{Counts, Tally};
 pub use verdict::Verdict;
-pub use wish::{Wish, WishKind, first_unnamed, has_name};
+pub use wish::{Wish, WishKind, definitely_word, first_unnamed, has_name, possibly_word};

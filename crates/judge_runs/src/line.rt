@@ -106,7 +106,7 @@ fn push_outcome(
 ///
 /// # Errors
 /// Out of memory.
-pub(crate) fn line_of(
+pub fn line_of(
     alloc: Global,
     wishes: &[Wish<'_>],
     folder: &str,

@@ -15,13 +15,17 @@ use std::alloc::{AllocError, Global};
 /// How many runs that don't pass are named again at the end.
 const FIRST_LIMIT: usize = 5;
 
-/// How many runs there are, and how many of them pass, fail and aren't judged.
+/// How many runs there are, and how many of them have each verdict.
 #[derive(Clone, Copy)]
-struct Counts {
-    all: u64,
-    pass: u64,
-    fail: u64,
-    not_judged: u64,
+pub struct Counts {
+    /// How many there are.
+    pub all: u64,
+    /// How many pass.
+    pub pass: u64,
+    /// How many fail.
+    pub fail: u64,
+    /// How many aren't judged.
+    pub not_judged: u64,
 }
 
 /// How many runs there are, and how many of them pass, fail and aren't judged, by their verdicts.
@@ -90,7 +94,7 @@ pub struct Tally {
 
 impl Tally {
     ghost use Rattle.judge_runs.specs.Runs as runs;
-    ghost use Rattle.judge_runs.specs.Tallies.{Stands, summary_text};
+    ghost use Rattle.judge_runs.specs.Tallies.{AreCounts, Stands, summary_text};
     ghost use Rattle.judge_runs.specs.Views.{conclusion_view, outcome_view, wishes_view};
     ghost use Rattle.judge_runs.specs.Wishes.{Condition};
     ghost use Rattle.std.specs.Prelude.{◌≡◌, ◌++◌, ◌∷◌, [], IfOk, List, OnOk};
@@ -146,12 +150,20 @@ impl Tally {
         Ok(text)
     }
 
+    /// How many runs there are, and how many of them have each verdict.
+    pub fn counts(&self) -> Counts
+        ensures { (wishes : List Condition) (all : List runs.Run) → Stands wishes all self.now
+            → AreCounts wishes all result }
+    {
+        counts_of(&self.verdicts)
+    }
+
     /// What the runs come to together.
     pub fn conclusion(&self) -> Conclusion
         ensures { (wishes : List Condition) (all : List runs.Run) → Stands wishes all self.now
             → conclusion_view result ≡ runs.conclusion wishes all }
     {
-        let counts = counts_of(&self.verdicts);
+        let counts = self.counts();
         if counts.fail > 0 {
             return Conclusion::SomeFails;
         }

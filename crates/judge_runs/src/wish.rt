@@ -33,7 +33,7 @@ pub struct Wish<'a> {
 }
 
 /// The word of an answer to Possibly.
-fn possibly_word(possibly: &Possibly) -> &'static str
+pub fn possibly_word(possibly: &Possibly) -> &'static str
     ensures { take 1 (possibly_words (possibly_view possibly.now)) ≡ result.now ∷ [] }
 {
     match possibly {
@@ -44,7 +44,7 @@ fn possibly_word(possibly: &Possibly) -> &'static str
 }
 
 /// The word of an answer to Definitely.
-fn definitely_word(definitely: &Definitely) -> &'static str
+pub fn definitely_word(definitely: &Definitely) -> &'static str
     ensures { take 1 (definitely_words (definitely_view definitely.now)) ≡ result.now ∷ [] }
 {
     match definitely {
@@ -136,7 +136,7 @@ impl<'a> Wish<'a> {
     }
 
     /// Whether it is for the predicate of an answer, which isn't as wished.
-    fn is_broken(&self, answer: &Answer) -> bool
+    pub fn is_broken(&self, answer: &Answer) -> bool
         ensures { result ≡ is_broken (wish_view self.now) (answer_view answer.now) }
     {
         self.is_for(answer) && !self.kind.is_granted(answer)

@@ -47,7 +47,7 @@ fn push_labelled(out: &mut Vec<u8>, tag: &[u8], id: &[u8], text: &str) -> Result
     push_bytes(out, tag)?;
     push_attribute(out, b"id", id)?;
     push_bytes(out, b">")?;
-    push_escaped(out, text)?;
+    push_escaped(out, text.as_bytes())?;
     push_bytes(out, b"</")?;
     push_bytes(out, tag)?;
     push_bytes(out, b">\n")

@@ -22,12 +22,15 @@ fn push_escaped_byte(out: &mut Vec<u8>, earlier: u8, last: u8, byte: u8) -> Resu
 }
 
 /// Appends a text as it stands in an element or between quotes.
-pub(crate) fn push_escaped(out: &mut Vec<u8>, text: &str) -> Result<(), AllocError>
+///
+/// # Errors
+/// Out of memory.
+pub fn push_escaped(out: &mut Vec<u8>, text: &[u8]) -> Result<(), AllocError>
     ensures { OnOk result (out.new.items ≡ out.old.items ++ escape text.now) }
 {
     let mut earlier = 0;
     let mut last = 0;
-    for byte in text.as_bytes() {
+    for byte in text {
         push_escaped_byte(out, earlier, last, *byte)?;
         earlier = last;
         last = *byte;

@@ -31,6 +31,6 @@ pub use anchor::Anchor;
 pub use class::Class;
 pub use drawing::Drawing;
 pub use drawing_text::{text, write};
-pub use escape::escaped;
+pub use escape::{escaped, push_escaped};
 pub use point::Point;
 pub use shape::Shape;

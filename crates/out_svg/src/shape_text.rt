@@ -110,7 +110,7 @@ pub(crate) fn push_shape(out: &mut Vec<u8>, shape: &Shape) -> Result<(), AllocEr
             push_opened(out, b"text", *class)?;
             push_text(out, *at, *anchor, *size)?;
             push_bytes(out, b">")?;
-            push_escaped(out, text.as_str())?;
+            push_escaped(out, text.as_bytes())?;
             push_bytes(out, b"</text>\n")
         }
     }

@@ -38,4 +38,4 @@ pub use pd_level::{Gate, NoGate, Reached};
 pub use pd_register::{Register, Row, RowState, Snapshot, Watcher};
 pub use pd_report::{Answer, Definitely, Possibly, Refusal, Report, text};
 pub use pd_spec::{Options, Spec, SpecFault};
-pub use reports::{report_inquiry, report_of};
+pub use reports::{report_inquiry, report_inquiry_watched, report_of};

@@ -192,3 +192,28 @@ pub fn report_inquiry<
     let crew = Crew::new(rt, workers, gate);
     streams_report(&crew, alloc, inquiry, readers, None::<&NoObserver>)
 }
+
+/// The report of a session as `report_inquiry` gives it, by this crew. The observer watches while the streams are read.
+///
+/// # Errors
+/// `Memory`.
+pub fn report_inquiry_watched<
+    S: RandomSource + Threads + Wait + Sync,
+    R: ByteSource + Send + Drop,
+    G: Gate + Sync,
+    O: Observer + Sync,
+>(
+    crew: &Crew<'_, '_, S, G>,
+    alloc: Global,
+    inquiry: Inquiry<'_, '_, '_>,
+    readers: Vec<R>,
+    observer: &O,
+) -> Result<Report, EngineFault>
+    requires { All (λ r. R.has_ended r ≡ false) readers.items }
+    ensures report { IfOk result (λ report. IsTrueReportOfInputs (inquiry_view inquiry.entry)
+        (map R.left readers.items) (report_view report)) }
+    ensures err { IsOkUnless result EngineFault.Memory }
+{
+    def_judgement::judgement_is_true();
+    streams_report(crew, alloc, inquiry, readers, Some(observer))
+}

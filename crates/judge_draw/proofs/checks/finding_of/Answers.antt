@@ -7,7 +7,7 @@ use Rattle.pd_report.specs.Views.{report_view}
 use Rattle.judge_draw.specs.Checks.{Finds, FindsOf}
 use Rattle.judge_session.specs.Inquiries.{inquiry_view}
 use Rattle.judge_draw.proofs.SessionFindings.{report_found, unread_found}
-use Rattle.judge_draw.proofs.checks.find.Goals as goal
+use Rattle.judge_draw.proofs.checks.finding_of.Goals as goal
 
 pub returns-in-Ok-clause-found : goal.returns-in-Ok-clause-found
 returns-in-Ok-clause-found g c =
