@@ -1,0 +1,5 @@
+-- The modules of lemmas of this crate.
+mod Parts
+mod RunsAdded
+pub mod Whole
+mod Words
