@@ -29,6 +29,7 @@ gcc.
 
 Each server listens on an address of its own, so it makes no difference which ports other programs use meanwhile."""
 import concurrent.futures
+import json
 import os
 import random
 import re
@@ -227,7 +228,11 @@ def runs_of(program, name, path):
     keep = [program, "serve", "--keep", os.path.join(path, "kept"), document]
     joins = [program, "serve", "--join-first", "--token", "x", "--idle", "60", "--wait", "1", document]
     said = [b"x\n" + part for part in parts[1:]]
-    kept = [("serve and keep", serve, keep, parts[1:]),
+    as_json = ["--format", "json"]
+    kept = [("judge as JSON", run, [*judge, *as_json], b""),
+            ("check as JSON", run, [program, "check", document, report, *streams, *as_json], b""),
+            ("serve as JSON", serve, [program, "serve", document, *as_json], parts[1:]),
+            ("serve and keep", serve, keep, parts[1:]),
             ("serve those who join", serve, joins, said),
             ("judge a bundle", run, [program, "judge", "-"], b"---\n".join(parts)),
             ("check against a bundle", run, [program, "check", report, "-"], b"---\n".join(parts)),
@@ -241,7 +246,10 @@ def runs_of(program, name, path):
 
 
 def refusal_of(output):
-    """The text of a refusal, also of one that a page shows."""
+    """The text of a refusal, also of one that a page or a JSON object shows."""
+    if output.startswith(b"{"):
+        found = json.loads(output)
+        return found.get("report", "refused bad\n").encode()
     found = REFUSAL.search(output)
     return found[1] + b"\n" if found else output
 

@@ -35,6 +35,10 @@ DOCUMENT = (b'{"processes":[{"name":"a","vars":{"x":0}},{"name":"b","vars":{"y":
 OF_A = b'{"process":"a"}\n{"set":{"x":1}}\n{"set":{"x":0}}\n{"end":true}\n'
 OF_B = b'{"process":"b"}\n{"set":{"y":1}}\n{"set":{"y":0}}\n{"end":true}\n'
 REPORT = b"session 2 processes 4 events 0 messages\nboth possibly yes 1,1\nboth definitely no b,b,a,a\n"
+AS_JSON = (b'{"events":4,"format":1,"messages":0,"outcome":"judged","predicates":[{"definitely":{"answer":"no",'
+           b'"path":[["b",2],["a",2]]},"name":"both","possibly":{"answer":"yes","cut":{"a":1,"b":1}}}],"processes":2,'
+           b'"report":"session 2 processes 4 events 0 messages\\nboth possibly yes 1,1\\n'
+           b'both definitely no b,b,a,a\\n"}\n')
 # Of width 1, so that nothing is known without the option.
 NARROW = DOCUMENT[:-1] + b',"width":1}'
 UNKNOWN = b"session 2 processes 4 events 0 messages\nboth possibly unknown 1\nboth definitely unknown 1\n"
@@ -512,6 +516,12 @@ def cases():
     options = {"watchers": 1, "fail_on": "both:definitely,possibly"}
     yield "a condition that is met", two, options, (5, REPORT, b"")
     yield "a condition that isn't met", two, {**options, "fail_on": "unknown,both:definitely"}, (0, REPORT, b"")
+    options = {"watchers": 1, "fail_on": "both:possibly", "asked": ["--format", "json"]}
+    yield "the report as JSON", two, options, (5, AS_JSON, b"")
+    options = {"document": b"x", "asked": ["--format", "json"]}
+    refusal = (b'{"format":1,"outcome":"refused","refusal":{"family":"document","word":"json"},'
+               b'"report":"refused spec json\\n"}\n')
+    yield "the document refused, as JSON", nobody, options, (1, refusal, b"")
     options, absent = {"fail_on": "both:possibly,other:possibly"}, (2, b"", b"monitor: no predicate of this name\n")
     yield "a condition on no predicate", nobody, options, absent
     yield "a condition on no predicate, and the port is taken", nobody, {**options, "taken": [0]}, absent

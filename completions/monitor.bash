@@ -92,14 +92,18 @@ _monitor() {
       return ;;
     --pages)
       return ;;
+    --json)
+      return ;;
+    --junit)
+      return ;;
   esac
   case "$command" in
     judge) options='--explain --max-time --width --ask --workers --beyond-width --fail-on --format --notes -h --help' ;;
-    check) options='--explain --max-time --width --ask --notes -h --help' ;;
+    check) options='--explain --max-time --width --ask --notes --format -h --help' ;;
     draw) options='--explain --max-time --width --ask --beyond-width --predicate --evidence --from --all --notes -h --help' ;;
-    serve) options='--explain --max-time --width --ask --port --bind --socket --port-file --watchers --wait --join-first --token --token-file --idle --keep --workers --beyond-width --fail-on -h --help' ;;
+    serve) options='--explain --max-time --width --ask --port --bind --socket --port-file --watchers --wait --join-first --token --token-file --idle --keep --workers --beyond-width --fail-on --format -h --help' ;;
     explore) options='--explain --max-time --width --ask --workers --beyond-width --fail-on --never --always --sometimes --notes --link -h --help' ;;
-    test) options='--explain --max-time --width --ask --workers --never --always --sometimes --jobs --pages -h --help' ;;
+    test) options='--explain --max-time --width --ask --workers --never --always --sometimes --jobs --pages --format --json --junit -h --help' ;;
     infer) options='--explain --max-time -h --help' ;;
     batch) options='--explain --max-time --width --ask --workers --beyond-width --fail-on --jobs -h --help' ;;
     bundle) options='--explain --max-time -h --help' ;;

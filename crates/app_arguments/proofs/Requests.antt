@@ -2,16 +2,15 @@
 use Rattle.std.proofs.Common.{◌≡◌, ◌∙◌, ℕ, List, Option, Some, None, codes, false, refl, sym, true≢false}
 use Rattle.std.proofs.lemmas.Slice.Eq.{bytes_eq-Decides}
 use Rattle.std.specs.Str.{bytes_eq}
-use Rattle.std.specs.Prelude.{unwrap_or}
 use Rattle.clap.specs.Words.{Row, Text, all_of, first_of}
 use Rattle.def_format.specs.Documents.{Options}
 use Rattle.judge_runs.specs.Wishes.{Condition}
 use Rattle.out_picture.specs.Scopes.{Scope}
-use Rattle.app_arguments.specs.Arguments.{HasJobs, HasWorkers, NamesAllOptions, NamesBy, NamesJudging, NamesOptions, NamesPage, NamesScope, NamesService, NamesSession, NamesTest}
+use Rattle.app_arguments.specs.Arguments.{HasJobs, HasWorkers, NamesAllOptions, NamesBy, NamesFormat, NamesJudging, NamesOptions, NamesPage, NamesScope, NamesService, NamesSession, NamesTest}
 use Rattle.app_arguments.specs.Views.{FindsJudgement, FindsService, NamesJudgement}
 use Rattle.app_arguments.specs.declared.request.Judgement.{Judgement}
 use Rattle.app_arguments.specs.declared.request.Service.{Service}
-use Rattle.app_arguments.specs.Formats.{Format, format_text}
+use Rattle.app_arguments.specs.Formats.{Format}
 use Rattle.app_arguments.specs.Places.{Place}
 use Rattle.app_arguments.specs.Statuses.{PageOptions, Request, JudgeInput, JudgeFiles, CheckFiles, DrawFiles, ServeStreams, ExploreFiles, TestRuns, InferDocument, JudgeLines, BundleRuns, MergeLines, ShowHelp, ShowVersion, Unclear}
 
@@ -21,19 +20,19 @@ differ a b other same = true≢false (sym ((bytes_eq-Decides a b).1 (sym same)) 
 pub judge_lacks : (rows : List Row)
     → ((options : Options) (fail_on : List Condition) (format : Format) (document : Text) (streams : List Text)
     → ¬ (NamesSession rows (codes "STREAM") document streams × NamesJudging rows options fail_on
-    × (unwrap_or (first_of (codes "FORMAT") rows) (codes "text") ≡ format_text format)))
+    × NamesFormat rows format))
     → (request : Request) → ¬ NamesBy (codes "judge") rows request
 judge_lacks rows none (JudgeFiles options fail_on format document streams) names =
     none options fail_on format document streams (names.1, names.2, names.3)
-judge_lacks rows none (CheckFiles options document report streams) names =
+judge_lacks rows none (CheckFiles options format document report streams) names =
     differ (codes "check") (codes "judge") refl names.0
 judge_lacks rows none (DrawFiles options scope document files) names =
     differ (codes "draw") (codes "judge") refl names.0
-judge_lacks rows none (ServeStreams options fail_on document place port_file watchers wait keep) names =
+judge_lacks rows none (ServeStreams options fail_on format document place port_file watchers wait keep) names =
     differ (codes "serve") (codes "judge") refl names.0
 judge_lacks rows none (ExploreFiles options fail_on page document streams) names =
     differ (codes "explore") (codes "judge") refl names.0
-judge_lacks rows none (TestRuns options wishes runs) names =
+judge_lacks rows none (TestRuns options wishes format runs) names =
     differ (codes "test") (codes "judge") refl names.0
 judge_lacks rows none (InferDocument streams) names =
     differ (codes "infer") (codes "judge") refl names.0
@@ -48,21 +47,21 @@ judge_lacks rows none ShowVersion names = names
 judge_lacks rows none Unclear names = names
 
 pub check_lacks : (rows : List Row)
-    → ((options : Options) (document : Text) (report : Text) (streams : List Text)
+    → ((options : Options) (format : Format) (document : Text) (report : Text) (streams : List Text)
     → ¬ (NamesSession rows (codes "STREAM") document streams × NamesOptions rows options
-    × (options.beyond_width ≡ false) × (first_of (codes "REPORT") rows ≡ Some report)))
+    × (options.beyond_width ≡ false) × (first_of (codes "REPORT") rows ≡ Some report) × NamesFormat rows format))
     → (request : Request) → ¬ NamesBy (codes "check") rows request
 check_lacks rows none (JudgeFiles options fail_on format document streams) names =
     differ (codes "judge") (codes "check") refl names.0
-check_lacks rows none (CheckFiles options document report streams) names =
-    none options document report streams (names.1, names.2, names.3, names.4)
+check_lacks rows none (CheckFiles options format document report streams) names =
+    none options format document report streams (names.1, names.2, names.3, names.4, names.5)
 check_lacks rows none (DrawFiles options scope document files) names =
     differ (codes "draw") (codes "check") refl names.0
-check_lacks rows none (ServeStreams options fail_on document place port_file watchers wait keep) names =
+check_lacks rows none (ServeStreams options fail_on format document place port_file watchers wait keep) names =
     differ (codes "serve") (codes "check") refl names.0
 check_lacks rows none (ExploreFiles options fail_on page document streams) names =
     differ (codes "explore") (codes "check") refl names.0
-check_lacks rows none (TestRuns options wishes runs) names =
+check_lacks rows none (TestRuns options wishes format runs) names =
     differ (codes "test") (codes "check") refl names.0
 check_lacks rows none (InferDocument streams) names =
     differ (codes "infer") (codes "check") refl names.0
@@ -82,15 +81,15 @@ pub draw_lacks : (rows : List Row)
     → (request : Request) → ¬ NamesBy (codes "draw") rows request
 draw_lacks rows none (JudgeFiles options fail_on format document streams) names =
     differ (codes "judge") (codes "draw") refl names.0
-draw_lacks rows none (CheckFiles options document report streams) names =
+draw_lacks rows none (CheckFiles options format document report streams) names =
     differ (codes "check") (codes "draw") refl names.0
 draw_lacks rows none (DrawFiles options scope document files) names =
     none options scope document files (names.1, names.2, names.3)
-draw_lacks rows none (ServeStreams options fail_on document place port_file watchers wait keep) names =
+draw_lacks rows none (ServeStreams options fail_on format document place port_file watchers wait keep) names =
     differ (codes "serve") (codes "draw") refl names.0
 draw_lacks rows none (ExploreFiles options fail_on page document streams) names =
     differ (codes "explore") (codes "draw") refl names.0
-draw_lacks rows none (TestRuns options wishes runs) names =
+draw_lacks rows none (TestRuns options wishes format runs) names =
     differ (codes "test") (codes "draw") refl names.0
 draw_lacks rows none (InferDocument streams) names =
     differ (codes "infer") (codes "draw") refl names.0
@@ -105,21 +104,22 @@ draw_lacks rows none ShowVersion names = names
 draw_lacks rows none Unclear names = names
 
 pub serve_lacks : (rows : List Row)
-    → ((options : Options) (fail_on : List Condition) (document : Text) (place : Place) (port_file : Option Text)
-    (watchers : ℕ) (wait : Option ℕ) (keep : Option Text)
-    → ¬ (NamesService rows document place port_file watchers wait keep × NamesJudging rows options fail_on))
+    → ((options : Options) (fail_on : List Condition) (format : Format) (document : Text) (place : Place)
+    (port_file : Option Text) (watchers : ℕ) (wait : Option ℕ) (keep : Option Text)
+    → ¬ (NamesService rows document place port_file watchers wait keep × NamesJudging rows options fail_on
+    × NamesFormat rows format))
     → (request : Request) → ¬ NamesBy (codes "serve") rows request
 serve_lacks rows none (JudgeFiles options fail_on format document streams) names =
     differ (codes "judge") (codes "serve") refl names.0
-serve_lacks rows none (CheckFiles options document report streams) names =
+serve_lacks rows none (CheckFiles options format document report streams) names =
     differ (codes "check") (codes "serve") refl names.0
 serve_lacks rows none (DrawFiles options scope document files) names =
     differ (codes "draw") (codes "serve") refl names.0
-serve_lacks rows none (ServeStreams options fail_on document place port_file watchers wait keep) names =
-    none options fail_on document place port_file watchers wait keep (names.1, names.2)
+serve_lacks rows none (ServeStreams options fail_on format document place port_file watchers wait keep) names =
+    none options fail_on format document place port_file watchers wait keep (names.1, names.2, names.3)
 serve_lacks rows none (ExploreFiles options fail_on page document streams) names =
     differ (codes "explore") (codes "serve") refl names.0
-serve_lacks rows none (TestRuns options wishes runs) names =
+serve_lacks rows none (TestRuns options wishes format runs) names =
     differ (codes "test") (codes "serve") refl names.0
 serve_lacks rows none (InferDocument streams) names =
     differ (codes "infer") (codes "serve") refl names.0
@@ -140,15 +140,15 @@ pub explore_lacks : (rows : List Row)
     → (request : Request) → ¬ NamesBy (codes "explore") rows request
 explore_lacks rows none (JudgeFiles options fail_on format document streams) names =
     differ (codes "judge") (codes "explore") refl names.0
-explore_lacks rows none (CheckFiles options document report streams) names =
+explore_lacks rows none (CheckFiles options format document report streams) names =
     differ (codes "check") (codes "explore") refl names.0
 explore_lacks rows none (DrawFiles options scope document files) names =
     differ (codes "draw") (codes "explore") refl names.0
-explore_lacks rows none (ServeStreams options fail_on document place port_file watchers wait keep) names =
+explore_lacks rows none (ServeStreams options fail_on format document place port_file watchers wait keep) names =
     differ (codes "serve") (codes "explore") refl names.0
 explore_lacks rows none (ExploreFiles options fail_on page document streams) names =
     none options fail_on page document streams (names.1, names.2, names.3)
-explore_lacks rows none (TestRuns options wishes runs) names =
+explore_lacks rows none (TestRuns options wishes format runs) names =
     differ (codes "test") (codes "explore") refl names.0
 explore_lacks rows none (InferDocument streams) names =
     differ (codes "infer") (codes "explore") refl names.0
@@ -163,20 +163,21 @@ explore_lacks rows none ShowVersion names = names
 explore_lacks rows none Unclear names = names
 
 pub test_lacks : (rows : List Row)
-    → ((options : Options) (wishes : List Condition) (runs : List Text)
-    → ¬ NamesTest rows runs options wishes)
+    → ((options : Options) (wishes : List Condition) (format : Format) (runs : List Text)
+    → ¬ NamesTest rows runs options wishes format)
     → (request : Request) → ¬ NamesBy (codes "test") rows request
 test_lacks rows none (JudgeFiles options fail_on format document streams) names =
     differ (codes "judge") (codes "test") refl names.0
-test_lacks rows none (CheckFiles options document report streams) names =
+test_lacks rows none (CheckFiles options format document report streams) names =
     differ (codes "check") (codes "test") refl names.0
 test_lacks rows none (DrawFiles options scope document files) names =
     differ (codes "draw") (codes "test") refl names.0
-test_lacks rows none (ServeStreams options fail_on document place port_file watchers wait keep) names =
+test_lacks rows none (ServeStreams options fail_on format document place port_file watchers wait keep) names =
     differ (codes "serve") (codes "test") refl names.0
 test_lacks rows none (ExploreFiles options fail_on page document streams) names =
     differ (codes "explore") (codes "test") refl names.0
-test_lacks rows none (TestRuns options wishes runs) names = none options wishes runs names.1
+test_lacks rows none (TestRuns options wishes format runs) names =
+    none options wishes format runs names.1
 test_lacks rows none (InferDocument streams) names =
     differ (codes "infer") (codes "test") refl names.0
 test_lacks rows none (JudgeLines options fail_on) names =
@@ -193,15 +194,15 @@ pub infer_lacks : (rows : List Row) → ((streams : List Text) → ¬ (all_of (c
     → (request : Request) → ¬ NamesBy (codes "infer") rows request
 infer_lacks rows none (JudgeFiles options fail_on format document streams) names =
     differ (codes "judge") (codes "infer") refl names.0
-infer_lacks rows none (CheckFiles options document report streams) names =
+infer_lacks rows none (CheckFiles options format document report streams) names =
     differ (codes "check") (codes "infer") refl names.0
 infer_lacks rows none (DrawFiles options scope document files) names =
     differ (codes "draw") (codes "infer") refl names.0
-infer_lacks rows none (ServeStreams options fail_on document place port_file watchers wait keep) names =
+infer_lacks rows none (ServeStreams options fail_on format document place port_file watchers wait keep) names =
     differ (codes "serve") (codes "infer") refl names.0
 infer_lacks rows none (ExploreFiles options fail_on page document streams) names =
     differ (codes "explore") (codes "infer") refl names.0
-infer_lacks rows none (TestRuns options wishes runs) names =
+infer_lacks rows none (TestRuns options wishes format runs) names =
     differ (codes "test") (codes "infer") refl names.0
 infer_lacks rows none (InferDocument streams) names = none streams names.1
 infer_lacks rows none (JudgeLines options fail_on) names =
@@ -219,15 +220,15 @@ pub batch_lacks : (rows : List Row) → ((options : Options) (fail_on : List Con
     → (request : Request) → ¬ NamesBy (codes "batch") rows request
 batch_lacks rows none (JudgeFiles options fail_on format document streams) names =
     differ (codes "judge") (codes "batch") refl names.0
-batch_lacks rows none (CheckFiles options document report streams) names =
+batch_lacks rows none (CheckFiles options format document report streams) names =
     differ (codes "check") (codes "batch") refl names.0
 batch_lacks rows none (DrawFiles options scope document files) names =
     differ (codes "draw") (codes "batch") refl names.0
-batch_lacks rows none (ServeStreams options fail_on document place port_file watchers wait keep) names =
+batch_lacks rows none (ServeStreams options fail_on format document place port_file watchers wait keep) names =
     differ (codes "serve") (codes "batch") refl names.0
 batch_lacks rows none (ExploreFiles options fail_on page document streams) names =
     differ (codes "explore") (codes "batch") refl names.0
-batch_lacks rows none (TestRuns options wishes runs) names =
+batch_lacks rows none (TestRuns options wishes format runs) names =
     differ (codes "test") (codes "batch") refl names.0
 batch_lacks rows none (InferDocument streams) names =
     differ (codes "infer") (codes "batch") refl names.0
@@ -244,15 +245,15 @@ pub bundle_lacks : (rows : List Row) → ((runs : List Text) → ¬ (all_of (cod
     → (request : Request) → ¬ NamesBy (codes "bundle") rows request
 bundle_lacks rows none (JudgeFiles options fail_on format document streams) names =
     differ (codes "judge") (codes "bundle") refl names.0
-bundle_lacks rows none (CheckFiles options document report streams) names =
+bundle_lacks rows none (CheckFiles options format document report streams) names =
     differ (codes "check") (codes "bundle") refl names.0
 bundle_lacks rows none (DrawFiles options scope document files) names =
     differ (codes "draw") (codes "bundle") refl names.0
-bundle_lacks rows none (ServeStreams options fail_on document place port_file watchers wait keep) names =
+bundle_lacks rows none (ServeStreams options fail_on format document place port_file watchers wait keep) names =
     differ (codes "serve") (codes "bundle") refl names.0
 bundle_lacks rows none (ExploreFiles options fail_on page document streams) names =
     differ (codes "explore") (codes "bundle") refl names.0
-bundle_lacks rows none (TestRuns options wishes runs) names =
+bundle_lacks rows none (TestRuns options wishes format runs) names =
     differ (codes "test") (codes "bundle") refl names.0
 bundle_lacks rows none (InferDocument streams) names =
     differ (codes "infer") (codes "bundle") refl names.0
@@ -273,15 +274,15 @@ pub no_command : (command : Text) (rows : List Row) → ¬ (command ≡ codes "j
     → (request : Request) → ¬ NamesBy command rows request
 no_command command rows a b c d e f g h i j (JudgeFiles options fail_on format document streams) names =
     a names.0
-no_command command rows a b c d e f g h i j (CheckFiles options document report streams) names =
+no_command command rows a b c d e f g h i j (CheckFiles options format document report streams) names =
     b names.0
 no_command command rows a b c d e f g h i j (DrawFiles options scope document files) names =
     c names.0
 no_command command rows a b c d e f g h i j
-    (ServeStreams options fail_on document place port_file watchers wait keep) names = d names.0
+    (ServeStreams options fail_on format document place port_file watchers wait keep) names = d names.0
 no_command command rows a b c d e f g h i j (ExploreFiles options fail_on page document streams) names =
     e names.0
-no_command command rows a b c d e f g h i j (TestRuns options wishes runs) names =
+no_command command rows a b c d e f g h i j (TestRuns options wishes format runs) names =
     f names.0
 no_command command rows a b c d e f g h i j (InferDocument streams) names =
     g names.0

@@ -11,7 +11,7 @@ use Rattle.def_format.specs.Limits.{worker_limit}
 use Rattle.def_format.specs.Lines.{has_line_feed}
 use Rattle.def_format.specs.Reports.{with_commas}
 use Rattle.app_arguments.specs.Conditions.{AreLawful, text_for}
-use Rattle.app_arguments.specs.Formats.{format_text}
+use Rattle.app_arguments.specs.Formats.{Format, format_text}
 use Rattle.app_arguments.specs.Places.{Place, OnPort, OnSocket}
 use Rattle.app_arguments.specs.Table.{monitor_app, port_limit, token_limit, watcher_limit}
 use Rattle.app_arguments.specs.Wishes.{or_none_ever, wishes_for}
@@ -79,6 +79,10 @@ abbrev pub NamesJudging : List Row → Options → (fail_on : List Condition) �
 NamesJudging rows options fail_on =
     NamesAllOptions rows options × AreConditions (first_of (codes "LIST") rows) fail_on × HasWorkers rows
 
+-- the format of what is written, which is lines of text if none is named
+abbrev pub NamesFormat : List Row → Format → Type 0
+NamesFormat rows format = unwrap_or (first_of (codes "FORMAT") rows) (codes "text") ≡ format_text format
+
 -- the word for a kind of evidence
 abbrev pub kind_text : Kind → Text
 kind_text Possibly = codes "possibly"
@@ -138,8 +142,10 @@ pub record NamesPage (rows : List Row) (page : PageOptions) : Type 0 where
   pub are_notes : page.notes ≡ texts_of rows (codes "NOTES")
   pub is_link : page.link ≡ first_of (codes "PATTERN") rows
 
--- the folders of recorded runs, with what is asked beside their documents, and what is wished of their predicates
-pub record NamesTest (rows : List Row) (runs : List Text) (options : Options) (wishes : List Condition) : Type 0 where
+-- the folders of recorded runs, with what is asked beside their documents, what is wished of their predicates, and the
+-- format of what is written
+pub record NamesTest (rows : List Row) (runs : List Text) (options : Options) (wishes : List Condition)
+    (format : Format) : Type 0 where
   pub names_runs : all_of (codes "RUN") rows ≡ Some runs
   pub names_options : NamesOptions rows options
   -- what is decided whatever the width is always asked for
@@ -147,6 +153,7 @@ pub record NamesTest (rows : List Row) (runs : List Text) (options : Options) (w
   pub some_workers : HasWorkers rows
   pub some_jobs : HasJobs rows
   pub are_wishes : wishes ≡ or_none_ever (wishes_in rows)
+  pub names_format : NamesFormat rows format
 
 -- ---- what is asked for
 
@@ -154,20 +161,21 @@ pub record NamesTest (rows : List Row) (runs : List Text) (options : Options) (w
 abbrev pub NamesBy : (command : Text) → List Row → Request → Type 0
 NamesBy command rows (JudgeFiles options fail_on format document streams) =
     (command ≡ codes "judge") × NamesSession rows (codes "STREAM") document streams × NamesJudging rows options fail_on
-    × (unwrap_or (first_of (codes "FORMAT") rows) (codes "text") ≡ format_text format)
-NamesBy command rows (CheckFiles options document report streams) =
+    × NamesFormat rows format
+NamesBy command rows (CheckFiles options format document report streams) =
     (command ≡ codes "check") × NamesSession rows (codes "STREAM") document streams × NamesOptions rows options
-    × (options.beyond_width ≡ false) × (first_of (codes "REPORT") rows ≡ Some report)
+    × (options.beyond_width ≡ false) × (first_of (codes "REPORT") rows ≡ Some report) × NamesFormat rows format
 NamesBy command rows (DrawFiles options scope document files) =
     (command ≡ codes "draw") × NamesSession rows (codes "FILE") document files × NamesAllOptions rows options
     × NamesScope rows scope
-NamesBy command rows (ServeStreams options fail_on document place port_file watchers wait keep) =
+NamesBy command rows (ServeStreams options fail_on format document place port_file watchers wait keep) =
     (command ≡ codes "serve") × NamesService rows document place port_file watchers wait keep
-    × NamesJudging rows options fail_on
+    × NamesJudging rows options fail_on × NamesFormat rows format
 NamesBy command rows (ExploreFiles options fail_on page document streams) =
     (command ≡ codes "explore") × NamesSession rows (codes "STREAM") document streams
     × NamesJudging rows options fail_on × NamesPage rows page
-NamesBy command rows (TestRuns options wishes runs) = (command ≡ codes "test") × NamesTest rows runs options wishes
+NamesBy command rows (TestRuns options wishes format runs) =
+    (command ≡ codes "test") × NamesTest rows runs options wishes format
 NamesBy command rows (InferDocument streams) = (command ≡ codes "infer") × (all_of (codes "STREAM") rows ≡ Some streams)
 NamesBy command rows (JudgeLines options fail_on) =
     (command ≡ codes "batch") × NamesJudging rows options fail_on × HasJobs rows

@@ -1,4 +1,4 @@
--- The formats in which a report is written.
+-- The formats in which a report is written, or what a check finds, or what came of recorded runs.
 use Rattle.std.specs.Prelude.{ℕ, List, codes}
 
 pub data Format : Type 0 where

@@ -10,7 +10,7 @@ use Rattle.app_arguments.specs.Formats.{Format}
 use Rattle.app_arguments.specs.Places.{Place}
 use Rattle.judge_runs.specs.Wishes.{Condition, names_of}
 use Rattle.out_picture.specs.Scopes.{Scope}
-use Rattle.def_judgement.specs.Writes.{Source, Writes, Whole, Partial, IsAnyReport, IsBrokenOff, IsJudged, IsRefused, IsWholeInput, IsTextOfBundle, IsTextOfStreams, IsTooLong, IsFindingTextOf}
+use Rattle.def_judgement.specs.Writes.{Source, Writes, Whole, Partial, IsAnyReport, IsBrokenOff, IsJudged, IsRefused, IsWholeInput, IsTextOfBundle, IsTextOfStreams, IsTooLong}
 
 -- ---- what a run is asked for
 
@@ -29,8 +29,8 @@ pub data Request : Type 0 where
   JudgeFiles : (options : Options) (fail_on : List Condition) (format : Format) (document : List ℕ)
       (streams : List (List ℕ)) → Request
   -- to check a report by a session document, with what is asked beside it, and streams of events, each in a file of
-  -- this name
-  CheckFiles : (options : Options) (document report : List ℕ) (streams : List (List ℕ)) → Request
+  -- this name, and to write what is found in this format
+  CheckFiles : (options : Options) (format : Format) (document report : List ℕ) (streams : List (List ℕ)) → Request
   -- to draw a session document, with what is asked beside it, and streams of events, each in a file of this name, with
   -- the report that may be named before them: as much of it as this
   DrawFiles : (options : Options) (scope : Scope) (document : List ℕ) (files : List (List ℕ)) → Request
@@ -38,15 +38,15 @@ pub data Request : Type 0 where
   -- place, in the same way; to name its port in a file, if that is asked for; to show meanwhile how far they are read
   -- to this many watchers; to wait no longer than this many seconds for the connections, and to keep the session in the
   -- folder of this name, if that is asked for
-  ServeStreams : (options : Options) (fail_on : List Condition) (document : List ℕ) (place : Place)
+  ServeStreams : (options : Options) (fail_on : List Condition) (format : Format) (document : List ℕ) (place : Place)
       (port_file : Option (List ℕ)) (watchers : ℕ) (wait : Option ℕ) (keep : Option (List ℕ)) → Request
   -- to write a page of a session document, with what is asked beside it, and streams of events, each in a file of this
   -- name
   ExploreFiles : (options : Options) (fail_on : List Condition) (page : PageOptions) (document : List ℕ)
       (streams : List (List ℕ)) → Request
-  -- to judge recorded runs, each in the folder of this name, with what is asked beside their documents, and to fail on
-  -- those that aren't as wished
-  TestRuns : (options : Options) (wishes : List Condition) (runs : List (List ℕ)) → Request
+  -- to judge recorded runs, each in the folder of this name, with what is asked beside their documents, to fail on
+  -- those that aren't as wished, and to write what came of them in this format
+  TestRuns : (options : Options) (wishes : List Condition) (format : Format) (runs : List (List ℕ)) → Request
   -- to write the first session document of streams of events, each in a file of this name
   InferDocument : (streams : List (List ℕ)) → Request
   -- to judge the sessions in the lines of the input, with what is asked beside their documents, and to fail on these
@@ -97,7 +97,7 @@ pub data Failure : Type 0 where
   -- the input or a file can't be read, or a report is too long
   ReadFailure : Failure
   -- the output can't be written, or not be flushed; or a session that is to be kept can't be, or a port not be named in
-  -- its file
+  -- its file, or the page of a run or the results of all not be written into theirs
   WriteFailure : Failure
   -- the bundle is too long
   BundleFailure : Failure
@@ -225,14 +225,16 @@ abbrev pub OfStreams : (streams : List Source) (fail_on : List Condition) → In
 OfStreams streams fail_on inquiry ending old new = OfReport (IsTextOfStreams inquiry streams) fail_on ending old new
 
 -- The text of the report of a document and of the streams that accepted connections gave, where a connection may be a
--- source of which G holds. There are as many connections as the document has processes, and none if it is refused.
-pub record IsTextOfAccepted (document : Inquiry) (G : Source → Type 0) (IsSaid : Report → Type 0) (text : List ℕ) :
-    Type 0 where
+-- source of which G holds, and IsText says what text that is. There are as many connections as the document has
+-- processes, and none if it is refused.
+pub record IsTextOfAccepted
+    (IsText : Inquiry → (inputs : List Source) (IsSaid : Report → Type 0) (text : List ℕ) → Type 0)
+    (document : Inquiry) (G : Source → Type 0) (IsSaid : Report → Type 0) (text : List ℕ) : Type 0 where
   pub inputs : List Source
   pub accepted : All G inputs
   pub one_each : (read : Document) → IsDocument document read → length inputs ≡ length read.names
   pub none_refused : (fault : DocumentFault) → IsRefusedDocument document fault → inputs ≡ []
-  pub is_text : IsTextOfStreams document inputs IsSaid text
+  pub is_text : IsText document inputs IsSaid text
 
 -- Not all places may be bound and connections accepted: the network may fail, or they are waited for no longer than
 -- some seconds.
@@ -246,15 +248,17 @@ HoldsDocument inquiry = (document : Document) × IsDocument inquiry document
 -- The same of streams that come by connections. If a place can't be bound, or a stream not be accepted, or not in time:
 -- nothing; and that comes only of a document that isn't refused. If something is to be written to other files, as where
 -- the session is kept, and can't be: nothing, in the same way, or all of the report.
-abbrev pub OfConnections : (G : Source → Type 0) (MayNotServe WritesFiles : Type 0) (fail_on : List Condition) → Inquiry
-    → Ending → (old new : Option (List ℕ)) → Type 0
-OfConnections G MayNotServe WritesFiles fail_on inquiry (Failed NetworkFailure) old new =
+abbrev pub OfConnections :
+    (IsText : Inquiry → (inputs : List Source) (IsSaid : Report → Type 0) (text : List ℕ) → Type 0)
+    (G : Source → Type 0) (MayNotServe WritesFiles : Type 0) (fail_on : List Condition) → Inquiry → Ending
+    → (old new : Option (List ℕ)) → Type 0
+OfConnections IsText G MayNotServe WritesFiles fail_on inquiry (Failed NetworkFailure) old new =
     MayNotServe × HoldsDocument inquiry × Keeps old new
-OfConnections G MayNotServe WritesFiles fail_on inquiry (Failed WriteFailure) old new =
-    WritesUpTo (IsTextOfAccepted inquiry G IsAnyReport) old new
+OfConnections IsText G MayNotServe WritesFiles fail_on inquiry (Failed WriteFailure) old new =
+    WritesUpTo (IsTextOfAccepted IsText inquiry G IsAnyReport) old new
     ⊎ (WritesFiles × HoldsDocument inquiry × Keeps old new)
-OfConnections G MayNotServe WritesFiles fail_on inquiry ending old new =
-    OfReport (IsTextOfAccepted inquiry G) fail_on ending old new
+OfConnections IsText G MayNotServe WritesFiles fail_on inquiry ending old new =
+    OfReport (IsTextOfAccepted IsText inquiry G) fail_on ending old new
 
 -- P holds of the bytes of a report, which are all that its source had left, and not too many.
 pub record OfClaim (report : Source) (P : List ℕ → Type 0) : Type 0 where
@@ -263,17 +267,18 @@ pub record OfClaim (report : Source) (P : List ℕ → Type 0) : Type 0 where
   pub fits : length bytes ≤ report_byte_limit
   pub holds : P bytes
 
--- A check of a report of this source finds nothing bad, or something: the text of what it finds. The output fails: that
--- text or a prefix of it.
-abbrev pub OfFinding : (report : Source) (streams : List Source) → Inquiry → Ending → (old new : Option (List ℕ))
-    → Type 0
-OfFinding report streams inquiry Success old new =
-    OfClaim report (λ r. Writes (IsFindingTextOf inquiry r streams (Some true)) Whole old new)
-OfFinding report streams inquiry Negative old new =
-    OfClaim report (λ r. Writes (IsFindingTextOf inquiry r streams (Some false)) Whole old new)
-OfFinding report streams inquiry (Failed WriteFailure) old new =
-    OfClaim report (λ r. WritesUpTo (IsFindingTextOf inquiry r streams None) old new)
-OfFinding report streams inquiry _ old new = ⊥
+-- A check of a report of this source finds nothing bad, or something: the text of what it finds, which IsText says. The
+-- output fails: that text or a prefix of it.
+abbrev pub OfFinding :
+    (IsText : Inquiry → (report : List ℕ) (inputs : List Source) (good : Option Bool) (text : List ℕ) → Type 0)
+    (report : Source) (streams : List Source) → Inquiry → Ending → (old new : Option (List ℕ)) → Type 0
+OfFinding IsText report streams inquiry Success old new =
+    OfClaim report (λ r. Writes (IsText inquiry r streams (Some true)) Whole old new)
+OfFinding IsText report streams inquiry Negative old new =
+    OfClaim report (λ r. Writes (IsText inquiry r streams (Some false)) Whole old new)
+OfFinding IsText report streams inquiry (Failed WriteFailure) old new =
+    OfClaim report (λ r. WritesUpTo (IsText inquiry r streams None) old new)
+OfFinding IsText report streams inquiry _ old new = ⊥
 
 -- The help is the parser's text: it is shown, or the output fails.
 abbrev pub HelpLeaves : Ending → (old new : Option (List ℕ)) → Type 0

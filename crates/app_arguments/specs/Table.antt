@@ -85,6 +85,10 @@ beyond_width = option (codes "BEYOND_WIDTH") (codes "beyond-width") kinds.Flag
 abbrev pub judging : List Argument
 judging = workers ∷ beyond_width ∷ option (codes "LIST") (codes "fail-on") kinds.Text ∷ []
 
+-- the format of what is written
+abbrev pub format : Argument
+format = option (codes "FORMAT") (codes "format") kinds.Text
+
 -- the names of predicates that are never to hold, are to hold in every observation, or in some
 abbrev pub wishing : List Argument
 wishing =
@@ -112,10 +116,10 @@ notes = option (codes "NOTES") (codes "notes") kinds.Texts
 -- what each command takes
 abbrev pub judge_arguments : List Argument
 judge_arguments =
-    on_document ++ (streams ∷ judging) ++ (option (codes "FORMAT") (codes "format") kinds.Text ∷ notes ∷ [])
+    on_document ++ (streams ∷ judging) ++ (format ∷ notes ∷ [])
 
 abbrev pub check_arguments : List Argument
-check_arguments = on_document ++ (placed (codes "REPORT") kinds.Name ∷ streams ∷ notes ∷ [])
+check_arguments = on_document ++ (placed (codes "REPORT") kinds.Name ∷ streams ∷ notes ∷ format ∷ [])
 
 abbrev pub draw_arguments : List Argument
 draw_arguments =
@@ -131,7 +135,7 @@ serve_arguments =
       default = Some (codes "0");
     }
     ∷ option (codes "SECONDS") (codes "wait") (kinds.Number 1 wait_limit) ∷ [])
-    ++ admitting ++ (option (codes "FOLDER") (codes "keep") kinds.Text ∷ judging)
+    ++ admitting ++ (option (codes "FOLDER") (codes "keep") kinds.Text ∷ judging) ++ (format ∷ [])
 
 abbrev pub explore_arguments : List Argument
 explore_arguments =
@@ -140,7 +144,9 @@ explore_arguments =
 
 abbrev pub test_arguments : List Argument
 test_arguments =
-    runs ∷ asking ++ (workers ∷ wishing) ++ (jobs ∷ option (codes "FOLDER") (codes "pages") kinds.Text ∷ [])
+    runs ∷ asking ++ (workers ∷ wishing)
+    ++ (jobs ∷ option (codes "FOLDER") (codes "pages") kinds.Text ∷ format
+    ∷ option (codes "JSON") (codes "json") kinds.Text ∷ option (codes "JUNIT") (codes "junit") kinds.Text ∷ [])
 
 abbrev pub infer_arguments : List Argument
 infer_arguments = streams ∷ explain ∷ []

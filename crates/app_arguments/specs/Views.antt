@@ -74,18 +74,21 @@ request_view Bundle = asked.JudgeInput
 request_view (Judge judgement format) =
     asked.JudgeFiles (options_view judgement.names.options) (fail_on_view judgement.fail_on) (format_view format)
     (session_view judgement.names).0 (session_view judgement.names).1
-request_view (Check report names) =
-    asked.CheckFiles (options_view names.options) (session_view names).0 report.now (session_view names).1
+request_view (Check report names format) =
+    asked.CheckFiles (options_view names.options) (format_view format) (session_view names).0 report.now
+    (session_view names).1
 request_view (Draw scope names) =
     asked.DrawFiles (options_view names.options) (scope_view scope) (session_view names).0 (session_view names).1
 request_view (Serve service) =
-    asked.ServeStreams (options_view service.options) (fail_on_view service.fail_on) service.spec.now
-    (place_view service.place) (text_view service.port_file) service.watchers service.wait (text_view service.keep)
+    asked.ServeStreams (options_view service.options) (fail_on_view service.fail_on) (format_view service.format)
+    service.spec.now (place_view service.place) (text_view service.port_file) service.watchers service.wait
+    (text_view service.keep)
 request_view (Explore judgement page) =
     asked.ExploreFiles (options_view judgement.names.options) (fail_on_view judgement.fail_on) (page_view page)
     (session_view judgement.names).0 (session_view judgement.names).1
 request_view (Test test) =
-    asked.TestRuns (options_view test.options) (wishes_view test.wishes.items) (names_view test.runs.items)
+    asked.TestRuns (options_view test.options) (wishes_view test.wishes.items) (format_view test.format)
+    (names_view test.runs.items)
 request_view (Infer streams) = asked.InferDocument (names_view streams.items)
 request_view (Batch batch) = asked.JudgeLines (options_view batch.options) (fail_on_view batch.fail_on)
 request_view (BundleRuns runs) = asked.BundleRuns (names_view runs.items)

@@ -2,7 +2,7 @@
 ghost use Rattle.clap.specs.Simple.{app_of, subcommand_of, subcommand_rows_of};
 ghost use Rattle.clap.specs.Values.{kind_of};
 ghost use Rattle.clap.specs.Walk.{Text, all_of, first_of};
-ghost use Rattle.app_arguments.specs.Arguments.{AreConditions, AreTaken, IsAddressText, IsNumberText, IsPlace, IsShownKind, IsToken, MayNameNumber, NamesAllOptions, NamesExtent, NamesNumber, NamesOptions, NamesPage, NamesScope, NamesService, NamesSession, NamesThreads, NamesToken, SaysFlag, kind_text, texts_of, wishes_in};
+ghost use Rattle.app_arguments.specs.Arguments.{AreConditions, AreTaken, IsAddressText, IsNumberText, IsPlace, IsShownKind, IsToken, MayNameNumber, NamesAllOptions, NamesExtent, NamesFormat, NamesNumber, NamesOptions, NamesPage, NamesScope, NamesService, NamesSession, NamesThreads, NamesToken, SaysFlag, kind_text, texts_of, wishes_in};
 ghost use Rattle.app_arguments.specs.ConditionViews.{fail_on_view};
 ghost use Rattle.app_arguments.specs.Formats.{format_text};
 ghost use Rattle.app_arguments.specs.Places as places;
@@ -240,10 +240,9 @@ fn format_by(word: Option<&str>) -> Option<Format>
     None
 }
 
-/// The format of the report, if its option has the word of one or isn't given.
+/// The format of what is written, if its option has the word of one or isn't given.
 fn format_of(matches: &ArgMatches<'_>) -> Option<Format>
-    ensures { Finds (λ format. unwrap_or (first_of (codes "FORMAT") (rows_in matches.now)) (codes "text")
-        ≡ format_text format) format_view result }
+    ensures { Finds (NamesFormat (rows_in matches.now)) format_view result }
 {
     format_by(text_of(matches, "FORMAT"))
 }
@@ -274,11 +273,14 @@ fn check_request<'a>(
     let Some(report) = text_of(matches, "REPORT") else {
         return Ok(None);
     };
+    let Some(format) = format_of(matches) else {
+        return Ok(None);
+    };
     let options = options_of(alloc, matches, false)?;
     let Some(names) = session_names(alloc, matches, "STREAM", options)? else {
         return Ok(None);
     };
-    Ok(Some(Request::Check(report, names)))
+    Ok(Some(Request::Check(report, names, format)))
 }
 
 /// The kind of evidence of this word, or none if there is no word, unless it is no kind's.
@@ -445,15 +447,17 @@ fn admission_of<'a>(matches: &ArgMatches<'a>) -> Option<Admission<'a>>
     })
 }
 
-/// What a server with these options and conditions is asked for, if all else is there.
+/// What a server with these options, these conditions and this format is asked for, if all else is there.
 fn service_of<'a>(
     matches: &ArgMatches<'a>,
     options: Options<'a>,
     fail_on: FailOn<'a>,
+    format: Format,
 ) -> Option<Service<'a>>
     ensures found { FindsService (rows_in matches.now) result }
     ensures options { IfSome result (λ service. options_view service.options ≡ options_view options.entry) }
     ensures conditions { IfSome result (λ service. fail_on_view service.fail_on ≡ fail_on_view fail_on.entry) }
+    ensures format { IfSome result (λ service. service.format ≡ format) }
 {
     let Some(spec) = text_of(matches, "SPEC") else {
         return None;
@@ -480,6 +484,7 @@ fn service_of<'a>(
         admission,
         keep: text_of(matches, "FOLDER"),
         fail_on,
+        format,
         workers,
     })
 }
@@ -494,8 +499,11 @@ fn serve_request<'a>(
     let Some(fail_on) = conditions_of(alloc, matches)? else {
         return Ok(None);
     };
+    let Some(format) = format_of(matches) else {
+        return Ok(None);
+    };
     let options = all_options(alloc, matches)?;
-    let Some(service) = service_of(matches, options, fail_on) else {
+    let Some(service) = service_of(matches, options, fail_on, format) else {
         return Ok(None);
     };
     Ok(Some(Request::Serve(service)))
@@ -552,15 +560,21 @@ fn test_request<'a>(
     let Some(jobs) = jobs_of(matches) else {
         return Ok(None);
     };
+    let Some(format) = format_of(matches) else {
+        return Ok(None);
+    };
     let options = options_of(alloc, matches, true)?;
     let wishes = or_none_ever(wished_of(alloc, matches)?)?;
     Ok(Some(Request::Test(Test {
         runs,
         options,
         wishes,
+        format,
         workers,
         jobs,
         pages: text_of(matches, "FOLDER"),
+        json: text_of(matches, "JSON"),
+        junit: text_of(matches, "JUNIT"),
     })))
 }
 

@@ -95,6 +95,7 @@ pub(crate) const CHECK_AFTER: &str =
     "What is found is written to the standard output. The status is 0 if nothing in it is bad, 1 if something is, 2 if \
 the arguments are refused, 3 if a file can't be opened or read or the output can't be written, and 4 if memory runs \
 out.\n\n\
+With --format json what is found is one line with a JSON object, for programs, in place of its lines.\n\n\
 With --notes an explanation says what recorders noted of the events that it names, in files beside the streams. What \
 is found and the status are the same.\n\n\
 With --max-time SECONDS the status is 6 if the run takes longer, and nothing is written to the standard output.\n\n\
@@ -144,7 +145,8 @@ something else, or nothing for 5 seconds, is closed, and takes no stream's place
 With --idle a stream ends that says nothing for so many seconds, as if its connection had been closed.\n\n\
 With --keep the status is 3 if something of the session can't be kept, as in a folder that has files already; nothing \
 is ever written over.\n\n\
-With --fail-on the status may be 5, as that of `judge`, whose help says what LIST is.\n\n\
+With --fail-on the status may be 5, as that of `judge`, whose help says what LIST is. With --format json the report \
+is one line with a JSON object, for programs, as that of `judge`.\n\n\
 An answer is unknown where a level of the lattice has more cuts than the document's width. With --beyond-width \
 predicates that name at most two processes are answered all the same and, as far as docs/SPECIFICATION.md says, those \
 of which each comparison names one process; and whether an `or` of such predicates, or most predicates with one sum \
@@ -197,6 +199,10 @@ but the lines of the runs that were judged, and a last line that says so.\n\n\
 With --jobs N runs are judged side by side: the lines are the same, in the same order.\n\
 With --pages FOLDER a page on which it is explored is written of each run that fails, as FOLDER/NAME.html of the run \
 NAME; the status is 3 if one can't be written.\n\n\
+With --format json one line is written in place of all others, at the end: a JSON object with the numbers of runs and, \
+of each run, its name, what came of it and why. --json FILE writes that into FILE beside the lines, and --junit FILE \
+the same as XML of JUnit, which CI servers show. The file is written under another name first, FILE.new, so it is \
+whole or as it was; the status is 3 if it can't be written.\n\n\
 The formats are described in docs/SPECIFICATION.md. An example, at the top of the repository:\n  \
 crates/monitor/out/monitor test examples/redis-lock examples/redis-lock-fenced";
 

@@ -89,6 +89,8 @@ pub struct Service<'a> {
     pub keep: Option<&'a str>,
     /// The answers to fail on.
     pub fail_on: FailOn<'a>,
+    /// The format of the report.
+    pub format: Format,
     /// How many workers share the work.
     pub workers: Workers,
 }
@@ -102,12 +104,18 @@ pub struct Test<'a> {
     pub options: Options<'a>,
     /// What is wished of the predicates.
     pub wishes: Vec<Wish<'a>>,
+    /// The format of what is written of the runs.
+    pub format: Format,
     /// How many workers share the work on one run.
     pub workers: Workers,
     /// How many runs are judged side by side.
     pub jobs: Workers,
     /// The name of the folder for the pages of runs that fail, if there is one.
     pub pages: Option<&'a str>,
+    /// The name of the file for what came of the runs as JSON, if there is one.
+    pub json: Option<&'a str>,
+    /// The name of the file for what came of the runs as JUnit's XML, if there is one.
+    pub junit: Option<&'a str>,
 }
 
 /// What a judgement of sessions in lines is asked for.
@@ -130,8 +138,9 @@ pub enum Request<'a> {
     Bundle,
     /// To judge a session document and streams, and write the report in this format.
     Judge(Judgement<'a>, Format),
-    /// To check the report in the file of this name against a session document and streams.
-    Check(&'a str, SessionNames<'a>),
+    /// To check the report in the file of this name against a session document and streams, and write what is found in
+    /// this format.
+    Check(&'a str, SessionNames<'a>, Format),
     /// To draw a session document and streams, as it is asked for. Before the streams a report may be named; of what
     /// else the run is judged first.
     Draw(DrawOptions<'a>, SessionNames<'a>),

@@ -1,5 +1,5 @@
 //! The table of the program's commands: what each takes, and what its help says of it.
-ghost use Rattle.app_arguments.specs.Table.{asking, batch_arguments, beyond_width, bundle_arguments, check_arguments, column_number_limit, draw_arguments, explain, explore_arguments, infer_arguments, jobs, judge_arguments, merge_arguments, notes, option, placed, port_limit, runs, serve_arguments, streams, test_arguments, wait_limit, watcher_limit, workers};
+ghost use Rattle.app_arguments.specs.Table.{asking, batch_arguments, beyond_width, bundle_arguments, check_arguments, column_number_limit, draw_arguments, explain, explore_arguments, format, infer_arguments, jobs, judge_arguments, merge_arguments, notes, option, placed, port_limit, runs, serve_arguments, streams, test_arguments, wait_limit, watcher_limit, workers};
 ghost use Rattle.app_arguments.specs.Views.{row_view};
 ghost use Rattle.app_arguments.specs.declared.table.ArgumentKind.TheVariants as kinds;
 ghost use Rattle.def_format.specs.Limits.{width_limit, worker_limit};
@@ -187,15 +187,38 @@ fn fail_on() -> Row
     )
 }
 
-/// The format of the report.
-fn format() -> Row
-    ensures { row_view result ≡ option (codes "FORMAT") (codes "format") kinds.Text }
+/// A format, of which the help says this.
+fn format(help: &'static str) -> Row
+    ensures { row_view result ≡ format }
 {
-    option(
-        "FORMAT",
-        "format",
-        ArgumentKind::Text,
+    option("FORMAT", "format", ArgumentKind::Text, help)
+}
+
+/// The format of the report.
+fn report_format() -> Row
+    ensures { row_view result ≡ format }
+{
+    format(
         "Write the report as text, in lines, or as json, in one line with one object; without it as text",
+    )
+}
+
+/// The format of what a check finds.
+fn finding_format() -> Row
+    ensures { row_view result ≡ format }
+{
+    format(
+        "Write what is found as text, in lines, or as json, in one line with one object; without it as text",
+    )
+}
+
+/// The format of what came of runs.
+fn test_format() -> Row
+    ensures { row_view result ≡ format }
+{
+    format(
+        "Write what came of the runs as text, in lines, or as json, in one line with one object at the end; without it \
+as text",
     )
 }
 
@@ -549,6 +572,31 @@ if there is none",
     )
 }
 
+/// The file for what came of runs as JSON.
+fn json_file() -> Row
+    ensures { row_view result ≡ option (codes "JSON") (codes "json") kinds.Text }
+{
+    option(
+        "JSON",
+        "json",
+        ArgumentKind::Text,
+        "Write what came of the runs into this file too, as --format json has it; the file is whole, or as it was",
+    )
+}
+
+/// The file for what came of runs as JUnit's XML.
+fn junit_file() -> Row
+    ensures { row_view result ≡ option (codes "JUNIT") (codes "junit") kinds.Text }
+{
+    option(
+        "JUNIT",
+        "junit",
+        ArgumentKind::Text,
+        "Write what came of the runs into this file too, as XML of JUnit, which CI servers show; the file is whole, or \
+as it was",
+    )
+}
+
 /// The folders of recorded runs.
 fn runs() -> Row
     ensures { row_view result ≡ runs }
@@ -573,13 +621,13 @@ pub(crate) fn judge_arguments() -> [Row; 10]
         workers(),
         beyond_width(),
         fail_on(),
-        format(),
+        report_format(),
         explained_notes(),
     ]
 }
 
 /// What `check` takes, in the order of its help.
-pub(crate) fn check_arguments() -> [Row; 7]
+pub(crate) fn check_arguments() -> [Row; 8]
     ensures { map row_view result ≡ check_arguments }
 {
     [
@@ -590,6 +638,7 @@ pub(crate) fn check_arguments() -> [Row; 7]
         report(),
         streams(),
         explained_notes(),
+        finding_format(),
     ]
 }
 
@@ -613,7 +662,7 @@ pub(crate) fn draw_arguments() -> [Row; 11]
 }
 
 /// What `serve` takes, in the order of its help.
-pub(crate) fn serve_arguments() -> [Row; 18]
+pub(crate) fn serve_arguments() -> [Row; 19]
     ensures { map row_view result ≡ serve_arguments }
 {
     [
@@ -635,6 +684,7 @@ pub(crate) fn serve_arguments() -> [Row; 18]
         workers(),
         beyond_width(),
         fail_on(),
+        report_format(),
     ]
 }
 
@@ -660,7 +710,7 @@ pub(crate) fn explore_arguments() -> [Row; 13]
 }
 
 /// What `test` takes, in the order of its help.
-pub(crate) fn test_arguments() -> [Row; 10]
+pub(crate) fn test_arguments() -> [Row; 13]
     ensures { map row_view result ≡ test_arguments }
 {
     [
@@ -674,6 +724,9 @@ pub(crate) fn test_arguments() -> [Row; 10]
         sometimes(),
         jobs(),
         pages(),
+        test_format(),
+        json_file(),
+        junit_file(),
     ]
 }
 

@@ -23,7 +23,10 @@ process NAME of that, NAME.stream.\n",
 }
 
 /// The explanation of how a bundling ended, as far as it could be made; empty if none is wanted.
-pub fn bundled_text<Y: System>(world: &World<'_, Y>, end: &Result<bool, EngineFault>) -> Vec<u8> {
+pub fn bundle_runs_text<Y: System>(
+    world: &World<'_, Y>,
+    end: &Result<bool, EngineFault>,
+) -> Vec<u8> {
     let mut out = Vec::new(world.alloc);
     if world.explain {
         let _ = put_bundled(&mut out, world, end);

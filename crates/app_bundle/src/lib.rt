@@ -19,4 +19,4 @@ mod streams;
 mod unbundled;
 
 pub use bundle::bundle_runs;
-pub use ends::bundled_text;
+pub use ends::bundle_runs_text;

@@ -9,7 +9,9 @@ use Rattle.def_format.specs.OtherTexts.{Finding}
 use Rattle.def_format.specs.Reports.{Report}
 use Rattle.def_judgement.specs.Findings.{IsFinding, IsSessionOf, of_unread, of_refused_session, of_refusal, of_session}
 use Rattle.def_judgement.specs.Headline.{HoldsSession, IsTrueReport}
-use Rattle.def_judgement.specs.Writes.{IsFindingTextOf, IsTextOfStreams, Source}
+use Rattle.def_judgement.specs.Writes.{IsTextOfStreams, Source}
+use Rattle.app_arguments.specs.Formats.{Format}
+use Rattle.app_host.specs.Formats.{IsFindingIn}
 use Rattle.app_host.specs.FileSources.{SameOutline}
 
 -- ---- bytes with one outline
@@ -113,10 +115,10 @@ same_finding options a b report streams finding e (of_session processes events m
     (same_session options a b streams document traces messages e held) counted answered
 
 -- what is found by the one is what is found by the other
-pub same_text : (options : Options) (a b report : List ℕ) (inputs : List Source) (good : Option Bool) (text : List ℕ)
-    → SameOutline options a b → IsFindingTextOf (inquiry_of options a) report inputs good text
-    → IsFindingTextOf (inquiry_of options b) report inputs good text
-same_text options a b report inputs good text e h = record {
+pub same_text : (format : Format) (options : Options) (a b report : List ℕ) (inputs : List Source) (good : Option Bool)
+    (text : List ℕ) → SameOutline options a b → IsFindingIn format (inquiry_of options a) report inputs good text
+    → IsFindingIn format (inquiry_of options b) report inputs good text
+same_text format options a b report inputs good text e h = record {
   streams = h.streams;
   are_given = h.are_given;
   finding = h.finding;

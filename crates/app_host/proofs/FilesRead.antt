@@ -11,12 +11,14 @@ use Rattle.def_format.specs.Documents.{Inquiry, Options, inquiry_of}
 use Rattle.def_format.specs.Limits.{document_byte_limit}
 use Rattle.def_format.specs.Reports.{Report}
 use Rattle.def_judgement.specs.Judgements.{RawStream}
-use Rattle.def_judgement.specs.Writes.{IsAnyReport, IsFindingTextOf, IsGivenAs, IsRefused, IsTextOfStreams, IsWholeInput, Partial, Source, Whole, whole_source}
+use Rattle.def_judgement.specs.Writes.{IsAnyReport, IsGivenAs, IsRefused, IsTextOfStreams, IsWholeInput, Partial, Source, Whole, whole_source}
 use Rattle.def_judgement.proofs.Writing.{writes_weaker}
 use Rattle.app_arguments.specs.Statuses.{Ending, Success, Negative, Alarm, NoPredicate, Misuse, Failed, ComesTo, File, MemoryFailure, ReadFailure, WriteFailure, BundleFailure, NetworkFailure, LeavesOf, OfClaim, OfDocument, OfFinding, OfReport, WritesUpTo, sources_of}
 use Rattle.app_arguments.specs.Conditions as conditions
 use Rattle.judge_runs.specs.Wishes.{Condition}
 use Rattle.judge_session.specs.declared.fault.EngineFault.{EngineFault}
+use Rattle.app_arguments.specs.Formats.{Format}
+use Rattle.app_host.specs.Formats.{IsFindingIn}
 use Rattle.app_host.specs.FileSources.{IsReadOf, Knows, ReadLeaves, SameOutline}
 use Rattle.app_host.proofs.DocumentPrefixes.{both_long, same_report_text, same_text}
 
@@ -278,12 +280,12 @@ report_text_of_files options read document files lefts IsSaid text same are h =
 
 -- ---- a check
 
-pub finding_text_of_files : (options : Options) (read document report : List ℕ) (files lefts : List Source)
-    (good : Option Bool) (text : List ℕ) → SameOutline options read document → AllZip Knows files lefts
-    → IsFindingTextOf (inquiry_of options read) report lefts good text
-    → IsFindingTextOf (inquiry_of options document) report files good text
-finding_text_of_files options read document report files lefts good text same are h =
-    same_text options read document report files good text same (record {
+pub finding_text_of_files : (format : Format) (options : Options) (read document report : List ℕ)
+    (files lefts : List Source) (good : Option Bool) (text : List ℕ) → SameOutline options read document
+    → AllZip Knows files lefts → IsFindingIn format (inquiry_of options read) report lefts good text
+    → IsFindingIn format (inquiry_of options document) report files good text
+finding_text_of_files format options read document report files lefts good text same are h =
+    same_text format options read document report files good text same (record {
       streams = h.streams;
       are_given = given_as_files files lefts h.streams are h.are_given;
       finding = h.finding;
@@ -302,24 +304,28 @@ of_claim file claimed P Q whole go h = record {
   holds = go h.bytes h.holds;
 }
 
-pub check_of_files : (options : Options) (read document : List ℕ) (file : Source) (claimed : List ℕ)
+pub check_of_files : (format : Format) (options : Options) (read document : List ℕ) (file : Source) (claimed : List ℕ)
     (files lefts : List Source) (old new : Option (List ℕ)) → IsWholeInput file claimed → AllZip Knows files lefts
     → SameOutline options read document → (ending : Ending)
-    → OfFinding (whole_source claimed) lefts (inquiry_of options read) ending old new
-    → OfFinding file files (inquiry_of options document) ending old new
-check_of_files options read document file claimed files lefts old new whole are same Success left =
+    → OfFinding (IsFindingIn format) (whole_source claimed) lefts (inquiry_of options read) ending old new
+    → OfFinding (IsFindingIn format) file files (inquiry_of options document) ending old new
+check_of_files format options read document file claimed files lefts old new whole are same Success left =
     of_claim file claimed _ _ whole (λ report. writes_weaker _ _ Whole old new (λ text.
-    finding_text_of_files options read document report files lefts (Some true) text same are)) left
-check_of_files options read document file claimed files lefts old new whole are same Negative left =
+    finding_text_of_files format options read document report files lefts (Some true) text same are)) left
+check_of_files format options read document file claimed files lefts old new whole are same Negative left =
     of_claim file claimed _ _ whole (λ report. writes_weaker _ _ Whole old new (λ text.
-    finding_text_of_files options read document report files lefts (Some false) text same are)) left
-check_of_files options read document file claimed files lefts old new whole are same Alarm left = left
-check_of_files options read document file claimed files lefts old new whole are same NoPredicate left = left
-check_of_files options read document file claimed files lefts old new whole are same Misuse left = left
-check_of_files options read document file claimed files lefts old new whole are same (Failed MemoryFailure) left = left
-check_of_files options read document file claimed files lefts old new whole are same (Failed ReadFailure) left = left
-check_of_files options read document file claimed files lefts old new whole are same (Failed WriteFailure) left =
+    finding_text_of_files format options read document report files lefts (Some false) text same are)) left
+check_of_files format options read document file claimed files lefts old new whole are same Alarm left = left
+check_of_files format options read document file claimed files lefts old new whole are same NoPredicate left = left
+check_of_files format options read document file claimed files lefts old new whole are same Misuse left = left
+check_of_files format options read document file claimed files lefts old new whole are same
+    (Failed MemoryFailure) left = left
+check_of_files format options read document file claimed files lefts old new whole are same
+    (Failed ReadFailure) left = left
+check_of_files format options read document file claimed files lefts old new whole are same (Failed WriteFailure) left =
     of_claim file claimed _ _ whole (λ report. up_to_weaker _ _ old new (λ text.
-    finding_text_of_files options read document report files lefts None text same are)) left
-check_of_files options read document file claimed files lefts old new whole are same (Failed BundleFailure) left = left
-check_of_files options read document file claimed files lefts old new whole are same (Failed NetworkFailure) left = left
+    finding_text_of_files format options read document report files lefts None text same are)) left
+check_of_files format options read document file claimed files lefts old new whole are same
+    (Failed BundleFailure) left = left
+check_of_files format options read document file claimed files lefts old new whole are same
+    (Failed NetworkFailure) left = left

@@ -1,17 +1,17 @@
 -- A flush changes nothing of what is written, and a text of which something is said is one of which nothing is said.
-use Rattle.std.proofs.Common.{◌≡◌, ◌≤◌, ◌∙◌, ℕ, List, ap, length, None, Some, Option, Ok, Err, inl, inr, refl, true, false}
-use Rattle.std.specs.Prelude.{◌⊎◌, Bool, if◌then◌else◌}
+use Rattle.std.proofs.Common.{◌≡◌, ◌≤◌, ◌∙◌, ◌↔◌, ℕ, IsTrue, List, ap, length, take, None, Some, Option, Ok, Err, inl, inr, refl, true, false}
+use Rattle.std.specs.Prelude.{◌⊎◌, Bool, IfSome, if◌then◌else◌}
 use Rattle.std.specs.List.{list_any}
-use Rattle.std.specs.Io.KnownBytes.{Keeps}
+use Rattle.std.specs.Io.KnownBytes.{Appends, Keeps}
 use Rattle.def_format.specs.Documents.{Inquiry}
 use Rattle.def_format.specs.Limits.{report_byte_limit}
 use Rattle.def_format.specs.Reports as formats
 use Rattle.def_judgement.specs.Headline.{is_judged}
 use Rattle.app_arguments.specs.Statuses.{ComesTo, JudgementLeaves, OfFinding, OfReport, WritesUpTo}
-use Rattle.def_judgement.specs.Writes.{Source, Partial, Whole, Writes, IsAnyReport, IsFindingTextOf, IsJudged, IsRefused, IsTextOfBundle, whole_source}
+use Rattle.def_judgement.specs.Writes.{Source, Partial, Whole, Writes, IsAnyReport, IsJudged, IsRefused, IsTextOfBundle, whole_source}
 use Rattle.def_judgement.proofs.TextsOwed.{weaker_said_of_bundle}
 use Rattle.def_judgement.proofs.Writing.{writes_weaker}
-use Rattle.app_host.proofs.FilesRead.{whole_is_whole}
+use Rattle.app_host.proofs.FilesRead.{up_to_weaker, whole_is_whole}
 use Rattle.pd_report.specs.Views.{report_view}
 use Rattle.pd_report.specs.declared.report.Report.{Report}
 use Rattle.judge_session.specs.Ends.{fault_end}
@@ -22,8 +22,13 @@ use Rattle.app_arguments.specs.Conditions as conditions
 use Rattle.judge_runs.specs.Wishes.{Condition}
 use Rattle.app_arguments.specs.Conditions.{Conclusion, conclusion, is_met}
 use Rattle.app_host.specs.Faults.{concluded_ending, ending_view, judged_ending, judgement_ending, report_ending}
+use Rattle.app_arguments.specs.Formats.{Format}
+use Rattle.app_host.specs.Formats.{IsFindingIn, finding_text}
+use Rattle.def_format.specs.OtherTexts.{Finding}
+use Rattle.def_judgement.specs.Findings.{IsClean}
+use Rattle.judge_draw.specs.Checks.{Finds}
 use Rattle.app_host.specs.FileSources.{ReadLeaves}
-use Rattle.app_host.proofs.WrittenSoFar.{appends_kept}
+use Rattle.app_host.proofs.WrittenSoFar.{appends_kept, up_to}
 
 -- ---- a flush
 
@@ -31,20 +36,6 @@ pub flushed_up_to : (P Q : List ℕ → Type 0) (old middle new : Option (List �
     → Writes P Whole old middle → Keeps middle new → WritesUpTo Q old new
 flushed_up_to P Q old middle new weaker written keeps =
     inl (written.0, weaker written.0 written.1, appends_kept old middle new written.0 written.2 keeps)
-
--- ---- nothing is said of a text
-
-pub unsaid_of_finding : (document : Inquiry) (report : List ℕ) (inputs : List Source) (good : Option Bool)
-    (text : List ℕ) → IsFindingTextOf document report inputs good text
-    → IsFindingTextOf document report inputs None text
-unsaid_of_finding document report inputs good text h = record {
-  streams = h.streams;
-  are_given = h.are_given;
-  finding = h.finding;
-  right = h.right;
-  clean = tt;
-  is_text = h.is_text;
-}
 
 -- ---- the ends of a judgement
 
@@ -136,19 +127,49 @@ unflushed_bundle_ends input given old middle new written keeps =
 
 -- ---- the ends of a check by bytes that were read
 
-pub check_ends : (document : Inquiry) (report : List ℕ) (inputs : List Source) (good : Bool)
-    (old middle new : Option (List ℕ)) → length report ≤ report_byte_limit
-    → Writes (IsFindingTextOf document report inputs (Some good)) Whole old middle → Keeps middle new
-    → ReadLeaves (OfFinding (whole_source report) inputs document) (ending_view (Ok good)) old new
-check_ends document report inputs true old middle new short written keeps = record {
-  bytes = report;
-  whole = whole_is_whole report;
-  fits = short;
-  holds = (written.0, written.1, appends_kept old middle new written.0 written.2 keeps);
+-- the text of what is found
+finding_is : (format : Format) (document : Inquiry) (report : List ℕ) (inputs : List Source) (good : Option Bool)
+    (finding : Finding) (text : List ℕ) → Finds document report inputs finding
+    → IfSome good (λ (good : Bool). IsTrue good ↔ IsClean finding) → text ≡ finding_text format finding
+    → IsFindingIn format document report inputs good text
+finding_is format document report inputs good finding text found clean is = record {
+  streams = found.streams;
+  are_given = found.are_given;
+  finding = finding;
+  right = found.right;
+  clean = clean;
+  is_text = is;
 }
-check_ends document report inputs false old middle new short written keeps = record {
+
+pub check_ends : (format : Format) (document : Inquiry) (report : List ℕ) (inputs : List Source) (good : Bool)
+    (finding : Finding) (written : List ℕ) (old new : Option (List ℕ)) → length report ≤ report_byte_limit
+    → Finds document report inputs finding → (IsTrue good ↔ IsClean finding)
+    → written ≡ finding_text format finding → Appends old new written
+    → ReadLeaves (OfFinding (IsFindingIn format) (whole_source report) inputs document) (ending_view (Ok good)) old new
+check_ends format document report inputs true finding written old new short found clean is appends = record {
   bytes = report;
   whole = whole_is_whole report;
   fits = short;
-  holds = (written.0, written.1, appends_kept old middle new written.0 written.2 keeps);
+  holds = (written, finding_is format document report inputs (Some true) finding written found clean is, appends);
+}
+check_ends format document report inputs false finding written old new short found clean is appends = record {
+  bytes = report;
+  whole = whole_is_whole report;
+  fits = short;
+  holds = (written, finding_is format document report inputs (Some false) finding written found clean is, appends);
+}
+
+pub check_fails : (format : Format) (document : Inquiry) (report : List ℕ) (inputs : List Source)
+    (finding : Finding) (written : List ℕ) (old new : Option (List ℕ)) (count : ℕ)
+    → length report ≤ report_byte_limit → Finds document report inputs finding
+    → written ≡ finding_text format finding → Appends old new (take count written)
+    → ReadLeaves (OfFinding (IsFindingIn format) (whole_source report) inputs document) (ending_view (Err Write)) old
+    new
+check_fails format document report inputs finding written old new count short found is appends = record {
+  bytes = report;
+  whole = whole_is_whole report;
+  fits = short;
+  holds = up_to_weaker (λ (other : List ℕ). other ≡ written) (IsFindingIn format document report inputs None) old new
+      (λ other same. finding_is format document report inputs None finding other found tt (same ∙ is))
+      (up_to written old new count appends);
 }

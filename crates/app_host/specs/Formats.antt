@@ -1,9 +1,14 @@
--- What a judgement of files leaves on its output, by the format of the report.
-use Rattle.std.specs.Prelude.{◌≡◌, ℕ, List, [], Option}
+-- What a judgement or a check leaves on its output, by the format of what is written.
+use Rattle.std.specs.List.{AllZip}
+use Rattle.std.specs.Prelude.{◌≡◌, ◌↔◌, ℕ, Bool, IsTrue, List, [], Option, IfSome}
 use Rattle.def_format.specs.Documents.{Document, DocumentFault, Inquiry, IsDocument, IsRefusedDocument}
 use Rattle.def_format.specs.Names.{ProcessNames}
-use Rattle.def_format.specs.Reports.{Report}
-use Rattle.def_judgement.specs.Writes.{IsTextOfStreams, Source}
+use Rattle.def_format.specs.OtherTexts.{Finding, check_text}
+use Rattle.def_format.specs.Reports.{Report, report_text}
+use Rattle.def_judgement.specs.Findings.{IsClean, IsFinding}
+use Rattle.def_judgement.specs.Judgements.{RawStream}
+use Rattle.def_judgement.specs.Writes.{IsGivenAs, IsTextOfStreams, Source}
+use Rattle.judge_findings.specs.JsonFindings.{finding_json}
 use Rattle.judge_runs.specs.Wishes.{Condition}
 use Rattle.app_arguments.specs.Formats.{Format, Plain, Json}
 use Rattle.app_arguments.specs.Statuses.{Ending, OfReport}
@@ -40,3 +45,26 @@ abbrev pub OfFormat : Format → (inputs : List Source) (fail_on : List Conditio
     → (old new : Option (List ℕ)) → Type 0
 OfFormat format inputs fail_on inquiry ending old new =
     OfReport (IsFormatted format inquiry inputs) fail_on ending old new
+
+-- the text of a finding in this format
+abbrev pub finding_text : Format → Finding → List ℕ
+finding_text Plain = check_text
+finding_text Json = finding_json
+
+-- The text in this format of what a check finds by a document with what is asked, a report's bytes and the streams that
+-- these sources gave. It has nothing bad in it exactly if that is said, if anything is said of it.
+pub record IsFindingIn (format : Format) (document : Inquiry) (report : List ℕ) (inputs : List Source)
+    (good : Option Bool) (text : List ℕ) : Type 0 where
+  pub streams : List RawStream
+  pub are_given : AllZip IsGivenAs inputs streams
+  pub finding : Finding
+  pub right : IsFinding document report streams finding
+  pub clean : IfSome good (λ good. IsTrue good ↔ IsClean finding)
+  pub is_text : text ≡ finding_text format finding
+
+-- ---- names for parts of this, by which contracts speak of them
+
+-- the text of a report on a document in this format
+abbrev pub IsTextIn : Format → Inquiry → Report → List ℕ → Type 0
+IsTextIn Plain inquiry report text = text ≡ report_text report
+IsTextIn Json inquiry report text = IsJsonOf inquiry report text

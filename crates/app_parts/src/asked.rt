@@ -61,7 +61,7 @@ fn place_in(request: &Request<'_>) -> Place {
         Request::Judge(judgement, _) => place_by_names(&judgement.names),
         Request::Explore(judgement, _) => place_by_names(&judgement.names),
         Request::Draw(_, names) => place_by_names(names),
-        Request::Check(report, names) => place_beside_report(report, names),
+        Request::Check(report, names, _) => place_beside_report(report, names),
         _ => Place::Nowhere,
     }
 }

@@ -7,9 +7,10 @@ use Rattle.def_format.specs.Reports as formats
 use Rattle.def_format.specs.Reports.{Report}
 use Rattle.def_judgement.specs.Headline.{is_judged}
 use Rattle.def_judgement.specs.Judgements.{IsJudgement, RawStream, of_read, of_refused}
-use Rattle.app_arguments.specs.Statuses.{Ending, Success, Negative, Alarm, NoPredicate, Misuse, Failed, ComesTo, File, MemoryFailure, ReadFailure, WriteFailure, BundleFailure, NetworkFailure, HasNamed, IsTextOfAccepted, LeavesOf, OfConnections, OfNamed, OfReport, OfStreams}
-use Rattle.def_judgement.specs.Writes.{Source, Whole, IsAnyReport, IsRefused, IsTextOfStreams}
-use Rattle.def_judgement.proofs.TextsOwed.{weaker_said}
+use Rattle.app_arguments.specs.Statuses.{Ending, Success, Negative, Alarm, NoPredicate, Misuse, Failed, ComesTo, File, MemoryFailure, ReadFailure, WriteFailure, BundleFailure, NetworkFailure, HasNamed, IsTextOfAccepted, LeavesOf, OfConnections, OfNamed, OfReport}
+use Rattle.app_arguments.specs.Formats.{Format}
+use Rattle.app_host.specs.Formats.{IsFormatted, OfFormat}
+use Rattle.def_judgement.specs.Writes.{Source, Whole, IsAnyReport, IsRefused}
 use Rattle.def_judgement.proofs.Writing.{writes_weaker}
 use Rattle.app_arguments.specs.Conditions as conditions
 use Rattle.judge_runs.specs.Wishes.{Condition}
@@ -26,8 +27,9 @@ use Rattle.app_serve.specs.declared.service_fault.ServiceFault.TheVariants.{Engi
 use Rattle.judge_session.specs.declared.fault.EngineFault.{EngineFault}
 use Rattle.judge_session.specs.declared.fault.EngineFault.TheVariants.{Memory, Write}
 use Rattle.app_host.specs.FileSources.{IsReadOf, ReadLeaves, SameOutline}
-use Rattle.app_host.proofs.DocumentPrefixes.{same_document, same_refusal, same_report_text}
+use Rattle.app_host.proofs.DocumentPrefixes.{same_document, same_refusal}
 use Rattle.app_host.proofs.FilesRead.{leaves_of_read, report_weaker}
+use Rattle.app_host.proofs.JsonReports.{found_in, same_text_in, weaker_said_in}
 use Rattle.app_host.proofs.NamedPredicates.{has_of_refused, named_of_file, refused_unless_memory, with_named}
 
 -- The streams are those of accepted connections: as many as the document has processes, and none if it is refused.
@@ -56,10 +58,11 @@ accepted_of_refused document G fault not_refused refused = record {
   none_refused = λ other _. refl;
 }
 
-accepted_text : (document : Inquiry) (G : Source → Type 0) (inputs : List Source) (IsSaid : Report → Type 0)
-    (text : List ℕ) → AreAccepted document G inputs → IsTextOfStreams document inputs IsSaid text
-    → IsTextOfAccepted document G IsSaid text
-accepted_text document G inputs IsSaid text are is = record {
+accepted_text : (format : Format) (document : Inquiry) (G : Source → Type 0) (inputs : List Source) (IsSaid : Report
+    → Type 0)
+    (text : List ℕ) → AreAccepted document G inputs → IsFormatted format document inputs IsSaid text
+    → IsTextOfAccepted (IsFormatted format) document G IsSaid text
+accepted_text format document G inputs IsSaid text are is = record {
   inputs = inputs;
   accepted = are.accepted;
   one_each = are.one_each;
@@ -68,15 +71,16 @@ accepted_text document G inputs IsSaid text are is = record {
 }
 
 -- what is left by these streams is what is to be left by accepted ones
-module _ (fail_on : List Condition) (document : Inquiry) (G : Source → Type 0) (inputs : List Source)
+module _ (format : Format) (fail_on : List Condition) (document : Inquiry) (G : Source → Type 0) (inputs : List Source)
     (MayNotServe IsKept : Type 0) (old new : Option (List ℕ)) (are : AreAccepted document G inputs) where
-  accepted : (ending : Ending) → OfStreams inputs fail_on document ending old new
-      → OfReport (IsTextOfAccepted document G) fail_on ending old new
-  accepted = report_weaker (IsTextOfStreams document inputs) (IsTextOfAccepted document G) fail_on old new
-      (λ IsSaid text. accepted_text document G inputs IsSaid text are)
+  accepted : (ending : Ending) → OfFormat format inputs fail_on document ending old new
+      → OfReport (IsTextOfAccepted (IsFormatted format) document G) fail_on ending old new
+  accepted = report_weaker (IsFormatted format document inputs) (IsTextOfAccepted
+      (IsFormatted format) document G) fail_on old new
+      (λ IsSaid text. accepted_text format document G inputs IsSaid text are)
 
-  pub service_of_judgement : (ending : Ending) → ReadLeaves (OfStreams inputs fail_on document) ending old new
-      → ReadLeaves (OfConnections G MayNotServe IsKept fail_on document) ending old new
+  pub service_of_judgement : (ending : Ending) → ReadLeaves (OfFormat format inputs fail_on document) ending old new
+      → ReadLeaves (OfConnections (IsFormatted format) G MayNotServe IsKept fail_on document) ending old new
   service_of_judgement Success left = accepted Success left
   service_of_judgement Negative left = accepted Negative left
   service_of_judgement Alarm left = accepted Alarm left
@@ -134,43 +138,49 @@ concluded_is_judged fail_on (formats.Judged processes events messages answers) i
 concluded_is_judged fail_on (formats.Refused refusal) is = cc
 
 -- so a document that is refused isn't judged
-pub refused_outcome : (document : Inquiry) (inputs : List Source) (end : Result programs.Report EngineFault)
+pub refused_outcome : (format : Format) (document : Inquiry) (inputs : List Source)
+    (end : Result programs.Report EngineFault)
     (old new : Option (List ℕ)) (fault : DocumentFault) → DocumentNotRefused → IsRefusedDocument document fault
-    → ReadLeaves (OfStreams inputs [] document) (judgement_ending [] end) old new
+    → ReadLeaves (OfFormat format inputs [] document) (judgement_ending [] end) old new
     → IfOk end (λ report. is_judged (report_view report) ≡ false)
-refused_outcome document inputs (Err fault) old new refusal not_refused refused left = tt
-refused_outcome document inputs (Ok (Refused r)) old new refusal not_refused refused left = refl
-refused_outcome document inputs (Ok (Judged processes events messages answers)) old new refusal not_refused refused
+refused_outcome format document inputs (Err fault) old new refusal not_refused refused left = tt
+refused_outcome format document inputs (Ok (Refused r)) old new refusal not_refused refused left = refl
+refused_outcome format document inputs (Ok (Judged processes events messages answers)) old new refusal not_refused
+    refused
     left =
-    let text = left.1.is_report_text in
-    sym (concluded_is_judged [] text.report text.said)
-    ∙ refused_report document left.1.streams text.report refusal not_refused refused text.right
+    let found = found_in format document inputs (ComesTo [] conditions.Unmet) left.0 left.1 in
+    sym (concluded_is_judged [] found.0 found.1)
+    ∙ refused_report document found.2.streams found.0 refusal not_refused refused found.2.right
 
 -- ---- a document that stands in a file
 
-accepted_of_file : (options : Options) (read document : List ℕ) (G : Source → Type 0) (IsSaid : Report → Type 0)
-    (text : List ℕ) → SameOutline options read document → IsTextOfAccepted (inquiry_of options read) G IsSaid text
-    → IsTextOfAccepted (inquiry_of options document) G IsSaid text
-accepted_of_file options read document G IsSaid text same h = record {
+accepted_of_file : (format : Format) (options : Options) (read document : List ℕ) (G : Source → Type 0)
+    (IsSaid : Report → Type 0)
+    (text : List ℕ) → SameOutline options read document → IsTextOfAccepted (IsFormatted format)
+    (inquiry_of options read) G IsSaid text
+    → IsTextOfAccepted (IsFormatted format) (inquiry_of options document) G IsSaid text
+accepted_of_file format options read document G IsSaid text same h = record {
   inputs = h.inputs;
   accepted = h.accepted;
   one_each = λ other is. h.one_each other (same_document options document read other (sym same) is);
   none_refused = λ fault refused.
       h.none_refused fault (same_refusal options document read fault (sym same) refused);
-  is_text = same_report_text options read document h.inputs IsSaid text same h.is_text;
+  is_text = same_text_in format options read document h.inputs IsSaid text same h.is_text;
 }
 
-module _ (options : Options) (read document : List ℕ) (G : Source → Type 0) (MayNotServe IsKept : Type 0)
+module _ (format : Format) (options : Options) (read document : List ℕ) (G : Source → Type 0)
+    (MayNotServe IsKept : Type 0)
     (fail_on : List Condition) (old new : Option (List ℕ)) (same : SameOutline options read document) where
-  of_file : (ending : Ending) → OfReport (IsTextOfAccepted (inquiry_of options read) G) fail_on ending old new
-      → OfReport (IsTextOfAccepted (inquiry_of options document) G) fail_on ending old new
-  of_file = report_weaker (IsTextOfAccepted (inquiry_of options read) G)
-      (IsTextOfAccepted (inquiry_of options document) G) fail_on old new
-      (λ IsSaid text. accepted_of_file options read document G IsSaid text same)
+  of_file : (ending : Ending) → OfReport (IsTextOfAccepted (IsFormatted format)
+      (inquiry_of options read) G) fail_on ending old new
+      → OfReport (IsTextOfAccepted (IsFormatted format) (inquiry_of options document) G) fail_on ending old new
+  of_file = report_weaker (IsTextOfAccepted (IsFormatted format) (inquiry_of options read) G)
+      (IsTextOfAccepted (IsFormatted format) (inquiry_of options document) G) fail_on old new
+      (λ IsSaid text. accepted_of_file format options read document G IsSaid text same)
 
   connections_of_file : (ending : Ending)
-      → OfConnections G MayNotServe IsKept fail_on (inquiry_of options read) ending old new
-      → OfConnections G MayNotServe IsKept fail_on (inquiry_of options document) ending old new
+      → OfConnections (IsFormatted format) G MayNotServe IsKept fail_on (inquiry_of options read) ending old new
+      → OfConnections (IsFormatted format) G MayNotServe IsKept fail_on (inquiry_of options document) ending old new
   connections_of_file Success left = of_file Success left
   connections_of_file Negative left = of_file Negative left
   connections_of_file Alarm left = of_file Alarm left
@@ -186,48 +196,49 @@ module _ (options : Options) (read document : List ℕ) (G : Source → Type 0) 
       (left.0, (left.1.0, same_document options read document left.1.0 same left.1.1), left.2)
 
 -- what is left by the bytes that were read is what is to be left by the file
-pub service_of_file : (options : Options) (file : File) (read : List ℕ) (IsUnread : Type 0) (G : Source → Type 0)
+pub service_of_file : (format : Format) (options : Options) (file : File) (read : List ℕ) (IsUnread : Type 0)
+    (G : Source → Type 0)
     (MayNotServe IsKept : Type 0) (fail_on : List Condition) (ending : Ending) (old new : Option (List ℕ))
     → IsReadOf read file.source
-    → ReadLeaves (OfNamed fail_on (OfConnections G MayNotServe IsKept fail_on) (inquiry_of options read)) ending old new
-    → LeavesOf options file IsUnread (OfNamed fail_on (OfConnections G MayNotServe IsKept fail_on)) ending old new
-service_of_file options file read IsUnread G MayNotServe IsKept fail_on ending old new is left =
-    let P = OfConnections G MayNotServe IsKept fail_on in
+    → ReadLeaves (OfNamed fail_on (OfConnections (IsFormatted format) G MayNotServe IsKept fail_on)
+    (inquiry_of options read)) ending old new
+    → LeavesOf options file IsUnread (OfNamed fail_on (OfConnections (IsFormatted format) G MayNotServe IsKept
+    fail_on)) ending old new
+service_of_file format options file read IsUnread G MayNotServe IsKept fail_on ending old new is left =
+    let P = OfConnections (IsFormatted format) G MayNotServe IsKept fail_on in
     leaves_of_read options file read IsUnread (OfNamed fail_on P (inquiry_of options read)) (OfNamed fail_on P) old new
     is
     (λ document same. named_of_file fail_on options read document P P old new same
-    (connections_of_file options read document G MayNotServe IsKept fail_on old new same)) ending left
+    (connections_of_file format options read document G MayNotServe IsKept fail_on old new same)) ending left
 
 -- ---- a session that is kept
 
-any_accepted : (document : Inquiry) (G : Source → Type 0) (IsSaid : Report → Type 0) (text : List ℕ)
-    → IsTextOfAccepted document G IsSaid text → IsTextOfAccepted document G IsAnyReport text
-any_accepted document G IsSaid text h = record {
+any_accepted : (format : Format) (document : Inquiry) (G : Source → Type 0) (IsSaid : Report → Type 0) (text : List ℕ)
+    → IsTextOfAccepted (IsFormatted format) document G IsSaid text → IsTextOfAccepted
+    (IsFormatted format) document G IsAnyReport text
+any_accepted format document G IsSaid text h = record {
   inputs = h.inputs;
   accepted = h.accepted;
   one_each = h.one_each;
   none_refused = h.none_refused;
-  is_text = record {
-    streams = h.is_text.streams;
-    are_given = h.is_text.are_given;
-    is_report_text = weaker_said document h.is_text.streams IsSaid IsAnyReport text (λ _ _. tt)
-        h.is_text.is_report_text;
-  };
+  is_text = weaker_said_in format document h.inputs IsSaid IsAnyReport text (λ _ _. tt) h.is_text;
 }
 
-module _ (document : Inquiry) (G : Source → Type 0) (MayNotServe IsKept : Type 0) (fail_on : List Condition)
+module _ (format : Format) (document : Inquiry) (G : Source → Type 0) (MayNotServe IsKept : Type 0)
+    (fail_on : List Condition)
     (old new : Option (List ℕ)) where
   abbrev Leaves : Ending → Type 0
-  Leaves ending = ReadLeaves (OfConnections G MayNotServe IsKept fail_on document) ending old new
+  Leaves ending = ReadLeaves (OfConnections (IsFormatted format) G MayNotServe IsKept fail_on document) ending old new
 
   -- all of a report is written, whatever it comes to
   unkept_left : (end : Conclusion) → Leaves (concluded_ending end) → Leaves (Failed WriteFailure)
   unkept_left conditions.OfRefusal left =
-      inl (inl (writes_weaker _ _ Whole old new (any_accepted document G IsRefused) left))
+      inl (inl (writes_weaker _ _ Whole old new (any_accepted format document G IsRefused) left))
   unkept_left conditions.Met left =
-      inl (inl (writes_weaker _ _ Whole old new (any_accepted document G (ComesTo fail_on conditions.Met)) left))
+      inl (inl (writes_weaker _ _ Whole old new (any_accepted format document G (ComesTo fail_on conditions.Met)) left))
   unkept_left conditions.Unmet left =
-      inl (inl (writes_weaker _ _ Whole old new (any_accepted document G (ComesTo fail_on conditions.Unmet)) left))
+      inl (inl (writes_weaker _ _ Whole old new (any_accepted format document G
+      (ComesTo fail_on conditions.Unmet)) left))
 
   -- how a server ends whose session is kept, or isn't
   pub kept_service : (end result : Result programs.Report ServiceFault) (is_kept : Bool)
@@ -245,39 +256,45 @@ module _ (document : Inquiry) (G : Source → Type 0) (MayNotServe IsKept : Type
 -- ---- the predicates that are named
 
 -- how a server ends that has them all
-pub named_service : (document : Inquiry) (G : Source → Type 0) (MayNotServe IsKept : Type 0) (fail_on : List Condition)
+pub named_service : (format : Format) (document : Inquiry) (G : Source → Type 0) (MayNotServe IsKept : Type 0)
+    (fail_on : List Condition)
     (end : Result programs.Report ServiceFault) (result : Result (Option programs.Report) ServiceFault)
     (old new : Option (List ℕ)) → HasNamed fail_on document
     → named_service_ending fail_on result ≡ service_ending fail_on end
-    → ReadLeaves (OfConnections G MayNotServe IsKept fail_on document) (service_ending fail_on end) old new
-    → ReadLeaves (OfNamed fail_on (OfConnections G MayNotServe IsKept fail_on) document)
+    → ReadLeaves (OfConnections (IsFormatted format) G MayNotServe IsKept fail_on document)
+    (service_ending fail_on end) old new
+    → ReadLeaves (OfNamed fail_on (OfConnections (IsFormatted format) G MayNotServe IsKept fail_on) document)
     (named_service_ending fail_on result) old new
-named_service document G MayNotServe IsKept fail_on end result old new has same left =
-    let P = OfConnections G MayNotServe IsKept fail_on in
+named_service format document G MayNotServe IsKept fail_on end result old new has same left =
+    let P = OfConnections (IsFormatted format) G MayNotServe IsKept fail_on in
     subst (λ (e : Ending). ReadLeaves (OfNamed fail_on P document) e old new) (sym same)
     (with_named fail_on P document old new has (λ never. never) (service_ending fail_on end) left)
 
 -- how a server ends whose document is refused, or for which memory ran out
-pub refused_service : (document : Inquiry) (G : Source → Type 0) (MayNotServe IsKept : Type 0)
+pub refused_service : (format : Format) (document : Inquiry) (G : Source → Type 0) (MayNotServe IsKept : Type 0)
     (fail_on : List Condition) (fault : SpecFault) (end : Result programs.Report ServiceFault)
     (result : Result (Option programs.Report) ServiceFault) (old new : Option (List ℕ)) → DocumentNotRefused
     → IsFaultOf document fault → (is_out_of_memory fault ≡ true → end ≡ Err (Engine Memory))
     → named_service_ending fail_on result ≡ service_ending fail_on end
-    → ReadLeaves (OfConnections G MayNotServe IsKept fail_on document) (service_ending fail_on end) old new
-    → ReadLeaves (OfNamed fail_on (OfConnections G MayNotServe IsKept fail_on) document)
+    → ReadLeaves (OfConnections (IsFormatted format) G MayNotServe IsKept fail_on document)
+    (service_ending fail_on end) old new
+    → ReadLeaves (OfNamed fail_on (OfConnections (IsFormatted format) G MayNotServe IsKept fail_on) document)
     (named_service_ending fail_on result) old new
-refused_service document G MayNotServe IsKept fail_on fault end result old new not_refused is_fault memory same left =
+refused_service format document G MayNotServe IsKept fail_on fault end result old new not_refused is_fault memory same
+    left =
     go (is_out_of_memory fault) refl
   where
     go : (b : Bool) → is_out_of_memory fault ≡ b
-        → ReadLeaves (OfNamed fail_on (OfConnections G MayNotServe IsKept fail_on) document)
+        → ReadLeaves (OfNamed fail_on (OfConnections (IsFormatted format) G MayNotServe IsKept fail_on) document)
         (named_service_ending fail_on result) old new
     go true is =
-        subst (λ (e : Ending). ReadLeaves (OfNamed fail_on (OfConnections G MayNotServe IsKept fail_on) document) e
+        subst (λ (e : Ending). ReadLeaves (OfNamed fail_on (OfConnections
+        (IsFormatted format) G MayNotServe IsKept fail_on) document) e
         old new) (sym (same ∙ ap (service_ending fail_on) (memory is)))
-        (subst (λ (e : Result programs.Report ServiceFault). ReadLeaves (OfConnections G MayNotServe IsKept fail_on
+        (subst (λ (e : Result programs.Report ServiceFault). ReadLeaves (OfConnections
+        (IsFormatted format) G MayNotServe IsKept fail_on
         document) (service_ending fail_on e) old new) (memory is) left)
     go false is =
         let refused = refused_unless_memory document fault is is_fault in
-        named_service document G MayNotServe IsKept fail_on end result old new
+        named_service format document G MayNotServe IsKept fail_on end result old new
         (has_of_refused fail_on document refused.0 not_refused refused.1) same left

@@ -7,53 +7,57 @@ use Rattle.def_format.specs.Documents.{Inquiry}
 use Rattle.def_judgement.specs.Writes.{Source}
 use Rattle.judge_runs.specs.Wishes.{Condition}
 use Rattle.app_arguments.specs.Statuses.{HoldsDocument, OfConnections}
+use Rattle.app_arguments.specs.Formats.{Format}
 use Rattle.app_host.specs.FileSources.{ReadLeaves}
+use Rattle.app_host.specs.Formats.{IsFormatted}
 use Rattle.app_serve.specs.ServiceFaults.{service_ending}
 use Rattle.app_serve.specs.declared.service_fault.ServiceFault.{ServiceFault}
 use Rattle.app_serve.specs.declared.service_fault.ServiceFault.TheVariants as faults
 use Rattle.judge_session.specs.declared.fault.EngineFault.TheVariants as engine
 use Rattle.pd_report.specs.declared.report.Report.{Report}
 
-pub unfiled : (fail_on : List Condition) (document : Inquiry) (G : Source → Type 0) (MayNotServe : Type 0)
+pub unfiled : (format : Format) (fail_on : List Condition) (document : Inquiry) (G : Source → Type 0)
+    (MayNotServe : Type 0)
     (keep port_file old : Option (List ℕ)) (result : Result Report ServiceFault) (fault : ServiceFault)
     → result ≡ Err fault
     → ((fault ≡ faults.Unkept) × (port_file ≢ None)) ⊎ (fault ≡ faults.Engine engine.Memory) → HoldsDocument document
-    → ReadLeaves (OfConnections G MayNotServe (WritesFiles keep port_file) fail_on document)
+    → ReadLeaves (OfConnections (IsFormatted format) G MayNotServe (WritesFiles keep port_file) fail_on document)
     (service_ending fail_on result) old old
-unfiled fail_on document G MayNotServe keep port_file old result fault is (inl fails) holds =
+unfiled format fail_on document G MayNotServe keep port_file old result fault is (inl fails) holds =
     subst (λ (r : Result Report ServiceFault).
-    ReadLeaves (OfConnections G MayNotServe (WritesFiles keep port_file) fail_on document)
+    ReadLeaves (OfConnections (IsFormatted format) G MayNotServe (WritesFiles keep port_file) fail_on document)
     (service_ending fail_on r) old old)
     (sym is) (subst (λ (f : ServiceFault).
-    ReadLeaves (OfConnections G MayNotServe (WritesFiles keep port_file) fail_on document)
+    ReadLeaves (OfConnections (IsFormatted format) G MayNotServe (WritesFiles keep port_file) fail_on document)
     (service_ending fail_on (Err f)) old old)
     (sym fails.0) (inr (inr fails.1, holds, keeps_same old)))
-unfiled fail_on document G MayNotServe keep port_file old result fault is (inr memory) holds =
+unfiled format fail_on document G MayNotServe keep port_file old result fault is (inr memory) holds =
     subst (λ (r : Result Report ServiceFault).
-    ReadLeaves (OfConnections G MayNotServe (WritesFiles keep port_file) fail_on document)
+    ReadLeaves (OfConnections (IsFormatted format) G MayNotServe (WritesFiles keep port_file) fail_on document)
     (service_ending fail_on r) old old)
     (sym is) (subst (λ (f : ServiceFault).
-    ReadLeaves (OfConnections G MayNotServe (WritesFiles keep port_file) fail_on document)
+    ReadLeaves (OfConnections (IsFormatted format) G MayNotServe (WritesFiles keep port_file) fail_on document)
     (service_ending fail_on (Err f)) old old)
     (sym memory) (keeps_same old))
 
 -- the same where the folder can't be made, or a file in it
-pub unkept : (fail_on : List Condition) (document : Inquiry) (G : Source → Type 0) (MayNotServe : Type 0)
+pub unkept : (format : Format) (fail_on : List Condition) (document : Inquiry) (G : Source → Type 0)
+    (MayNotServe : Type 0)
     (keep port_file old : Option (List ℕ)) (result : Result Report ServiceFault) (fault : ServiceFault)
     → result ≡ Err fault
     → ((fault ≡ faults.Unkept) × (keep ≢ None)) ⊎ (fault ≡ faults.Engine engine.Memory) → HoldsDocument document
-    → ReadLeaves (OfConnections G MayNotServe (WritesFiles keep port_file) fail_on document)
+    → ReadLeaves (OfConnections (IsFormatted format) G MayNotServe (WritesFiles keep port_file) fail_on document)
     (service_ending fail_on result) old old
-unkept fail_on document G MayNotServe keep port_file old result fault is (inl fails) holds =
+unkept format fail_on document G MayNotServe keep port_file old result fault is (inl fails) holds =
     subst (λ (r : Result Report ServiceFault).
-    ReadLeaves (OfConnections G MayNotServe (WritesFiles keep port_file) fail_on document)
+    ReadLeaves (OfConnections (IsFormatted format) G MayNotServe (WritesFiles keep port_file) fail_on document)
     (service_ending fail_on r) old old)
     (sym is) (subst (λ (f : ServiceFault).
-    ReadLeaves (OfConnections G MayNotServe (WritesFiles keep port_file) fail_on document)
+    ReadLeaves (OfConnections (IsFormatted format) G MayNotServe (WritesFiles keep port_file) fail_on document)
     (service_ending fail_on (Err f)) old old)
     (sym fails.0) (inr (inl fails.1, holds, keeps_same old)))
-unkept fail_on document G MayNotServe keep port_file old result fault is (inr memory) holds =
-    unfiled fail_on document G MayNotServe keep port_file old result fault is (inr memory) holds
+unkept format fail_on document G MayNotServe keep port_file old result fault is (inr memory) holds =
+    unfiled format fail_on document G MayNotServe keep port_file old result fault is (inr memory) holds
 
 -- which faults these are
 pub unfiled_fault : (keep port_file : Option (List ℕ)) (result : Result Report ServiceFault) (fault : ServiceFault)

@@ -1,7 +1,8 @@
 //! Judges a session whose streams come by connections.
 ghost use Rattle.app_arguments.specs.Places as places;
-ghost use Rattle.app_arguments.specs.Views.{place_view};
+ghost use Rattle.app_arguments.specs.Views.{format_view, place_view};
 ghost use Rattle.app_host.specs.FileSources.{IsReadOf, ReadLeaves};
+ghost use Rattle.app_host.specs.Formats.{IsFormatted, OfFormat};
 ghost use Rattle.app_serve.specs.Kept.{AsksForFiles, WritesFiles};
 ghost use Rattle.app_serve.specs.Watched.{IsBeside};
 ghost use Rattle.app_serve.specs.ServiceFaults.{named_service_ending, service_ending};
@@ -11,7 +12,7 @@ ghost use Rattle.judge_runs.specs.Wishes.{Condition};
 ghost use Rattle.app_arguments.specs.ConditionViews.{fail_on_view};
 ghost use Rattle.def_format.specs.Documents.{IsDocument, inquiry_of};
 ghost use Rattle.def_judgement.specs.Headline.{is_judged};
-ghost use Rattle.app_arguments.specs.Statuses.{LeavesOf, MayBeUnread, OfConnections, OfNamed, OfStreams, ServiceMayFail};
+ghost use Rattle.app_arguments.specs.Statuses.{LeavesOf, MayBeUnread, OfConnections, OfNamed, ServiceMayFail};
 ghost use Rattle.pd_report.specs.Views.{report_view};
 ghost use Rattle.judge_session.specs.Inquiries.{inquiry_view};
 ghost use Rattle.pd_spec.specs.Views.{IsFaultOf, document_view, options_view};
@@ -29,16 +30,16 @@ use super::recording_source::RecordingSource;
 use super::service_fault::ServiceFault;
 use super::service_notices::ServiceNotices;
 use super::watchers::Watchers;
-use app_arguments::{Place, Workers};
+use app_arguments::{Format, Place, Workers};
 use app_door::Room;
 use app_host::{
     FileSource, Network, NotedSource, System, World, is_out_of_memory, judge_read, open_noted,
-    read_document,
+    read_document, write_report,
 };
 use def_judgement::one_document;
 use judge_session::EngineFault;
 use pd_engine::{
-    ByteSource, Crew, Inquiry, NoGate, Observer, Report, Spec, SpecFault, judge_inquiry_watched,
+    ByteSource, Crew, Inquiry, NoGate, Observer, Report, Spec, SpecFault, report_inquiry_watched,
 };
 use std::alloc::{AllocError, Global};
 use std::io::Write;
@@ -251,8 +252,8 @@ fn service_end(end: Result<Report, EngineFault>) -> Result<Report, ServiceFault>
     }
 }
 
-/// Judges a document, with what is asked, and the streams while the observer runs, writes the
-/// report, and flushes the output. It gives the report.
+/// Judges a document, with what is asked, and the streams while the observer runs, writes the report in the format that
+/// is asked for, and flushes the output. It gives the report.
 ///
 /// # Errors
 /// `Memory` leaves nothing written. `Write` leaves a part of the report written, or all of it if only the flush failed.
@@ -272,17 +273,15 @@ fn judge_accepted<
     output: &mut O,
 ) -> Result<Report, EngineFault>
     requires { All (λ stream. R.has_ended stream ≡ false) streams.items }
-    ensures written { (fail_on : List Condition) → ReadLeaves (OfStreams (map R.left streams.items) fail_on
-        (inquiry_view inquiry.entry)) (judgement_ending fail_on result) (O.contents output.old)
-        (O.contents output.new) }
+    ensures written { (fail_on : List Condition) → ReadLeaves (OfFormat (format_view host.now.service.now.format)
+        (map R.left streams.items) fail_on (inquiry_view inquiry.entry)) (judgement_ending fail_on result)
+        (O.contents output.old) (O.contents output.new) }
     ensures err { IfErr result (λ fault. (fault ≡ EngineFault.Memory) ⊎ (fault ≡ EngineFault.Write)) }
 {
-    let crew = Crew::new(rt, host.service.workers.count(), host.gate);
-    let report = judge_inquiry_watched(&crew, host.alloc, inquiry, streams, observer, output)?;
-    if output.flush().is_err() {
-        return Err(EngineFault::Write);
-    }
-    Ok(report)
+    let service = host.service;
+    let crew = Crew::new(rt, service.workers.count(), host.gate);
+    let report = report_inquiry_watched(&crew, host.alloc, inquiry, streams, observer)?;
+    write_report(host.alloc, inquiry, report, service.format, output)
 }
 
 /// Binds the places, begins to keep the session, if it is to be kept, writes the file of the port, if there is to be
@@ -305,7 +304,8 @@ fn serve_session<
 ) -> Result<Report, ServiceFault>
     requires document { IsDocument (inquiry_view inquiry) (document_view spec.now) }
     ensures written { (fail_on : List Condition) → ReadLeaves (OfConnections
-        (N.may_give host.now.network.now (place_view host.now.service.now.place))
+        (IsFormatted (format_view host.now.service.now.format)) (N.may_give host.now.network.now
+        (place_view host.now.service.now.place))
         (ServiceMayFail host.now.service.now.wait N.never_fails) (AsksForFiles host.now.service.now) fail_on
         (inquiry_view inquiry.entry)) (service_ending fail_on result) (O.contents output.old) (O.contents output.new) }
     ensures err { IfErr result (λ fault. (fault ≡ faults.Network) ⊎ (fault ≡ faults.Late)
@@ -335,7 +335,7 @@ fn serve_session<
     service_end(judge_accepted(rt, host, inquiry, streams, &watchers, output))
 }
 
-/// Judges a document, with what is asked, and no streams, writes the report, and flushes the output.
+/// Judges a document, with what is asked, and no streams, writes the report in this format, and flushes the output.
 ///
 /// # Errors
 /// As `judge_read`.
@@ -343,14 +343,16 @@ fn judge_no_streams<Y: System, O: Write>(
     world: &World<'_, Y>,
     inquiry: Inquiry<'_, '_, '_>,
     workers: &Workers,
+    format: Format,
     output: &mut O,
 ) -> Result<Report, EngineFault>
-    ensures written { (fail_on : List Condition) → ReadLeaves (OfStreams [] fail_on (inquiry_view inquiry.entry))
-        (judgement_ending fail_on result) (O.contents output.old) (O.contents output.new) }
+    ensures written { (fail_on : List Condition) → ReadLeaves (OfFormat (format_view format) [] fail_on
+        (inquiry_view inquiry.entry)) (judgement_ending fail_on result) (O.contents output.old)
+        (O.contents output.new) }
     ensures err { IfErr result (λ fault. (fault ≡ EngineFault.Memory) ⊎ (fault ≡ EngineFault.Write)) }
 {
     let streams = Vec::<<Y::Network as Network>::Connection>::new(world.alloc);
-    judge_read(world, inquiry, streams, workers, &NoGate, output)
+    judge_read(world, inquiry, streams, workers, format, &NoGate, output)
 }
 
 /// Reports why a document is refused. No place is bound.
@@ -366,7 +368,8 @@ fn refuse_document<Y: System, O: Write>(
 ) -> Result<Report, ServiceFault>
     requires { IsFaultOf (inquiry_view inquiry) fault.now }
     ensures written { (place : places.Place) (fail_on : List Condition) (wait : Option ℕ)
-        (keep port_file : Option (List ℕ)) → ReadLeaves (OfConnections (Y.Network.may_give host.now.network.now place)
+        (keep port_file : Option (List ℕ)) → ReadLeaves (OfConnections
+        (IsFormatted (format_view host.now.service.now.format)) (Y.Network.may_give host.now.network.now place)
         (ServiceMayFail wait Y.Network.never_fails) (WritesFiles keep port_file) fail_on
         (inquiry_view inquiry.entry))
         (service_ending fail_on result) (O.contents output.old) (O.contents output.new) }
@@ -380,8 +383,9 @@ fn refuse_document<Y: System, O: Write>(
     if is_out_of_memory(fault) {
         return Err(ServiceFault::Engine(EngineFault::Memory));
     }
-    let workers = &host.service.workers;
-    service_end(judge_no_streams(world, inquiry, workers, output))
+    let service = host.service;
+    let end = judge_no_streams(world, inquiry, &service.workers, service.format, output);
+    service_end(end)
 }
 
 /// How a server ends whose session is kept, or isn't, by how it ended before that was known.
@@ -423,7 +427,8 @@ fn serve_kept<S: RandomSource + Threads + Wait + Sync, F: FileSource, N: Network
 ) -> Result<Report, ServiceFault>
     requires document { IsDocument (inquiry_view inquiry) (document_view spec.now) }
     ensures { (fail_on : List Condition) → ReadLeaves (OfConnections
-        (N.may_give host.now.network.now (place_view host.now.service.now.place))
+        (IsFormatted (format_view host.now.service.now.format)) (N.may_give host.now.network.now
+        (place_view host.now.service.now.place))
         (ServiceMayFail host.now.service.now.wait N.never_fails) (AsksForFiles host.now.service.now) fail_on
         (inquiry_view inquiry.entry)) (service_ending fail_on result) (O.contents output.old) (O.contents output.new) }
 {
@@ -457,7 +462,8 @@ fn serve_named<S: RandomSource + Threads + Wait + Sync, F: FileSource, N: Networ
 ) -> Result<Option<Report>, ServiceFault>
     requires document { IsDocument (inquiry_view inquiry) (document_view spec.now) }
     ensures { ReadLeaves (OfNamed (fail_on_view host.now.service.now.fail_on) (OfConnections
-        (N.may_give host.now.network.now (place_view host.now.service.now.place))
+        (IsFormatted (format_view host.now.service.now.format)) (N.may_give host.now.network.now
+        (place_view host.now.service.now.place))
         (ServiceMayFail host.now.service.now.wait N.never_fails) (AsksForFiles host.now.service.now)
         (fail_on_view host.now.service.now.fail_on)) (inquiry_view inquiry.entry))
         (named_service_ending (fail_on_view host.now.service.now.fail_on) result) (O.contents output.old)
@@ -486,8 +492,9 @@ fn serve_document<Y: System, O: Write>(
     document: &[u8],
     output: &mut O,
 ) -> Result<Option<Report>, ServiceFault>
-    ensures { ReadLeaves (OfNamed (fail_on_view host.now.service.now.fail_on) (OfConnections (Y.Network.may_give
-        host.now.network.now (place_view host.now.service.now.place)) (ServiceMayFail host.now.service.now.wait
+    ensures { ReadLeaves (OfNamed (fail_on_view host.now.service.now.fail_on) (OfConnections
+        (IsFormatted (format_view host.now.service.now.format)) (Y.Network.may_give host.now.network.now
+        (place_view host.now.service.now.place)) (ServiceMayFail host.now.service.now.wait
         Y.Network.never_fails) (AsksForFiles host.now.service.now) (fail_on_view
         host.now.service.now.fail_on)) (inquiry_of (options_view host.now.service.now.options) document.now))
         (named_service_ending (fail_on_view host.now.service.now.fail_on) result) (O.contents output.old)
@@ -545,7 +552,8 @@ pub fn serve<Y: System, O: Write>(
     ensures { LeavesOf (options_view host.now.service.now.options) (Y.Files.file_of
         host.now.files.now host.now.service.now.spec.now) (MayBeUnread (Y.Files.file_of host.now.files.now
         host.now.service.now.spec.now ∷ []) (Y.Files.file_of host.now.files.now host.now.service.now.spec.now ∷ []))
-        (OfNamed (fail_on_view host.now.service.now.fail_on) (OfConnections (Y.Network.may_give host.now.network.now
+        (OfNamed (fail_on_view host.now.service.now.fail_on) (OfConnections
+        (IsFormatted (format_view host.now.service.now.format)) (Y.Network.may_give host.now.network.now
         (place_view host.now.service.now.place)) (ServiceMayFail host.now.service.now.wait Y.Network.never_fails)
         (AsksForFiles host.now.service.now) (fail_on_view host.now.service.now.fail_on)))
         (named_service_ending (fail_on_view host.now.service.now.fail_on) result) (O.contents output.old)

@@ -7,11 +7,12 @@ use Rattle.std.proofs.Math.Seq.{take-suc}
 use Rattle.std.proofs.lemmas.List.{get_or-map, length-map, take_all}
 use Rattle.def_format.specs.Documents.{Options}
 use Rattle.def_judgement.specs.Writes.{Source}
+use Rattle.app_arguments.specs.Formats.{Format}
 use Rattle.app_arguments.specs.Statuses.{File}
 use Rattle.judge_runs.specs.Views.{outcome_view}
 use Rattle.judge_runs.specs.Wishes.{Condition}
 use Rattle.judge_runs.specs.declared.outcome.Outcome as outcomes
-use Rattle.judge_runs.specs.declared.tally.Tally.{Tally}
+use Rattle.app_test.specs.declared.records.Records.{Records}
 use Rattle.judge_session.specs.declared.fault.EngineFault.{EngineFault}
 use Rattle.judge_session.specs.declared.fault.EngineFault.TheVariants.{Memory}
 use Rattle.app_test.specs.Jobs.{IsJobOf, IsResultOfJob, runs_of}
@@ -85,26 +86,28 @@ module _ {R : Type 0} (left : R → Source) (options : Options) where
 -- ---- some runs that are tested
 
 -- nothing is written
-pub nothing_more : (files : List ℕ → File) (options : Options) (wishes : List Condition) (folders : List (List ℕ))
-    (old : Option (List ℕ)) → LeavesMore files options wishes folders old old
-nothing_more files options wishes folders old =
-    record { count = 0; runs = []; are_runs = tt; left = no_line wishes [] old }
+pub nothing_more : (files : List ℕ → File) (options : Options) (wishes : List Condition) (format : Format)
+    (folders : List (List ℕ)) (old : Option (List ℕ)) → LeavesMore files options wishes format folders old old
+nothing_more files options wishes format folders old =
+    record { count = 0; runs = []; are_runs = tt; left = no_line format wishes [] old }
 
 module _ {V : Type 0} (files : List ℕ → File) (options : Options) (wishes : List Condition)
-    (folders : List (List ℕ)) (results : List (Result outcomes.Outcome EngineFault)) (old new : Option (List ℕ))
+    (format : Format) (folders : List (List ℕ)) (results : List (Result outcomes.Outcome EngineFault))
+    (old new : Option (List ℕ))
     (are : AllZip (IsRunIn files options wishes) (take (length (runs_of folders results)) folders)
     (runs_of folders results)) (result : Result V EngineFault) where
   -- the lines of all are written
-  pub tests_more : (is_wanted : Bool) (before after : Tally) (names : V → List (List ℕ)) (count : ℕ)
+  pub tests_more : (is_wanted : Bool) (before after : Records) (names : V → List (List ℕ)) (count : ℕ)
       → count ≡ length folders → IfOk result (λ _. length (runs_of folders results) ≡ count)
-      → IfOk result (λ v. WritesRuns wishes is_wanted (runs_of folders results) before after [] (names v) old new)
-      → IfOk result (λ v. TestsMore files options wishes is_wanted folders before after (names v) old new)
+      → IfOk result (λ v. WritesRuns format wishes is_wanted (runs_of folders results) before after [] (names v) old
+      new)
+      → IfOk result (λ v. TestsMore files options wishes format is_wanted folders before after (names v) old new)
   tests_more is_wanted before after names count all whole writes = go result whole writes
     where
       go : (result : Result V EngineFault) → IfOk result (λ _. length (runs_of folders results) ≡ count)
           → IfOk result
-          (λ v. WritesRuns wishes is_wanted (runs_of folders results) before after [] (names v) old new)
-          → IfOk result (λ v. TestsMore files options wishes is_wanted folders before after (names v) old new)
+          (λ v. WritesRuns format wishes is_wanted (runs_of folders results) before after [] (names v) old new)
+          → IfOk result (λ v. TestsMore files options wishes format is_wanted folders before after (names v) old new)
       go (Ok v) whole writes = record {
         runs = runs_of folders results;
         are_runs = subst
@@ -115,12 +118,12 @@ module _ {V : Type 0} (files : List ℕ → File) (options : Options) (wishes : 
       go (Err fault) whole writes = tt
 
   -- a prefix of them is
-  pub leaves_more : OnErr result (LeavesRuns wishes (runs_of folders results) old new)
-      → OnErr result (LeavesMore files options wishes folders old new)
+  pub leaves_more : OnErr result (LeavesRuns format wishes (runs_of folders results) old new)
+      → OnErr result (LeavesMore files options wishes format folders old new)
   leaves_more left = go result left
     where
-      go : (result : Result V EngineFault) → OnErr result (LeavesRuns wishes (runs_of folders results) old new)
-          → OnErr result (LeavesMore files options wishes folders old new)
+      go : (result : Result V EngineFault) → OnErr result (LeavesRuns format wishes (runs_of folders results) old new)
+          → OnErr result (LeavesMore files options wishes format folders old new)
       go (Ok v) left = tt
       go (Err fault) left = record {
         count = length (runs_of folders results);

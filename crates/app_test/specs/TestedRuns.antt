@@ -1,20 +1,26 @@
 -- What is written of runs that were tested so far.
-use Rattle.std.specs.Prelude.{◌≡◌, ◌⊎◌, ℕ, Bool, true, List, [], ◌∷◌, ◌++◌, filter, map, take, Option, Result, Ok, Err}
+use Rattle.std.specs.Prelude.{◌≡◌, ◌⊎◌, ◌||◌, ℕ, Bool, true, List, [], ◌∷◌, ◌++◌, filter, is_some, map, take, Option, Result, Ok, Err}
 use Rattle.std.specs.List.{AllZip}
 use Rattle.std.specs.Io.KnownBytes.{Appends}
 use Rattle.def_format.specs.Documents.{Options}
+use Rattle.app_arguments.specs.Formats.{Format, Plain, Json}
 use Rattle.app_arguments.specs.Statuses.{File}
-use Rattle.judge_runs.specs.Runs.{Fail, Run, conclusion, is_same, line_of, verdict_of_run}
+use Rattle.app_arguments.specs.Views.{format_view}
+use Rattle.app_arguments.specs.declared.request.Test.{Test}
+use Rattle.judge_results.specs.Results.{results_json}
+use Rattle.judge_results.specs.ResultsSoFar.{AreResults}
+use Rattle.judge_results.specs.declared.results.Wanted.{Wanted}
+use Rattle.judge_runs.specs.Runs.{Fail, Run, conclusion, is_same, verdict_of_run}
 use Rattle.judge_runs.specs.Tallies.{Stands, lines_text, summary_text}
 use Rattle.judge_runs.specs.Views.{conclusion_view}
 use Rattle.judge_runs.specs.Wishes.{Condition}
 use Rattle.judge_runs.specs.declared.conclusion.Conclusion.{Conclusion}
 use Rattle.judge_runs.specs.declared.outcome.Outcome as outcomes
-use Rattle.judge_runs.specs.declared.tally.Tally.{Tally}
 use Rattle.judge_session.specs.declared.fault.EngineFault.{EngineFault}
 use Rattle.judge_session.specs.declared.fault.EngineFault.TheVariants.{Memory, Write}
 use Rattle.app_test.specs.Jobs.{run_of}
-use Rattle.app_test.specs.Tests.{IsRunIn}
+use Rattle.app_test.specs.Tests.{IsRunIn, is_json}
+use Rattle.app_test.specs.declared.records.Records.{Records}
 
 -- a fault that ends a test
 abbrev pub EndsTest : EngineFault → Type 0
@@ -29,63 +35,85 @@ fails_run wishes run = is_same Fail (verdict_of_run wishes run)
 abbrev pub failing_in : List Condition → List Run → List (List ℕ)
 failing_in wishes runs = map (λ (run : Run). run.folder) (filter (fails_run wishes) runs)
 
+-- ---- what is kept of runs
+
+-- the texts of results that a test has to have: the JSON text for its file or the output, the XML for its file
+abbrev pub wanted_by : Test → Wanted
+wanted_by test =
+    record { json = is_some test.json || is_json (format_view test.format); junit = is_some test.junit }
+
+-- the records stand for these runs, with the results of them that are wanted
+pub record AreRecords (wanted : Wanted) (wishes : List Condition) (runs : List Run) (records : Records) : Type 0 where
+  pub tally : Stands wishes runs records.tally
+  pub results : AreResults wanted wishes runs records.results
+
 -- ---- the lines of some runs
 
-abbrev pub IsLineWritten : List Condition → Run → (old new : Option (List ℕ)) → Type 0
-IsLineWritten wishes run old new = Appends old new (line_of wishes run)
+-- what is written of runs before the end, in this format: their lines, or nothing before one object
+abbrev pub lines_in : Format → List Condition → List Run → List ℕ
+lines_in Plain wishes runs = lines_text wishes runs
+lines_in Json wishes runs = []
 
--- The lines of these runs are written, a tally stands for them too, and the folders of those that fail are added, if
--- that is wanted.
-pub record WritesRuns (wishes : List Condition) (is_wanted : Bool) (runs : List Run) (before after : Tally)
-    (failing_before failing_after : List (List ℕ)) (old new : Option (List ℕ)) : Type 0 where
-  pub stands : (earlier : List Run) → Stands wishes earlier before → Stands wishes (earlier ++ runs) after
-  pub written : Appends old new (lines_text wishes runs)
+-- what is written at the end
+abbrev pub end_in : Format → List Condition → List Run → List ℕ
+end_in Plain wishes runs = summary_text wishes runs
+end_in Json wishes runs = results_json wishes runs
+
+-- What is due of these runs before the end is written, records stand for them too, and the folders of those that fail
+-- are added, if that is wanted.
+pub record WritesRuns (format : Format) (wishes : List Condition) (is_wanted : Bool) (runs : List Run)
+    (before after : Records) (failing_before failing_after : List (List ℕ)) (old new : Option (List ℕ)) : Type 0 where
+  pub stands : (wanted : Wanted) (earlier : List Run) → AreRecords wanted wishes earlier before
+      → AreRecords wanted wishes (earlier ++ runs) after
+  pub written : Appends old new (lines_in format wishes runs)
   pub failing : is_wanted ≡ true → failing_after ≡ failing_before ++ failing_in wishes runs
 
 -- the same of the run in this folder by its result, which is known
-abbrev pub WritesResult : (wishes : List Condition) (is_wanted : Bool) (folder : List ℕ)
-    → Result outcomes.Outcome EngineFault → (before after : Tally) (failing_before failing_after : List (List ℕ))
+abbrev pub WritesResult : (format : Format) (wishes : List Condition) (is_wanted : Bool) (folder : List ℕ)
+    → Result outcomes.Outcome EngineFault → (before after : Records) (failing_before failing_after : List (List ℕ))
     (old new : Option (List ℕ)) → Type 0
-WritesResult wishes is_wanted folder (Ok outcome) before after failing_before failing_after old new =
-    WritesRuns wishes is_wanted (run_of folder outcome ∷ []) before after failing_before failing_after old new
-WritesResult wishes is_wanted folder (Err fault) before after failing_before failing_after old new = ⊥
+WritesResult format wishes is_wanted folder (Ok outcome) before after failing_before failing_after old new =
+    WritesRuns format wishes is_wanted (run_of folder outcome ∷ []) before after failing_before failing_after old new
+WritesResult format wishes is_wanted folder (Err fault) before after failing_before failing_after old new = ⊥
 
--- a prefix of the lines of these runs is written
-abbrev pub LeavesRuns : (wishes : List Condition) (runs : List Run) (old new : Option (List ℕ)) → Type 0
-LeavesRuns wishes runs old new = (count : ℕ) × Appends old new (take count (lines_text wishes runs))
+-- a prefix of what is due of these runs before the end is written
+abbrev pub LeavesRuns : (format : Format) (wishes : List Condition) (runs : List Run) (old new : Option (List ℕ))
+    → Type 0
+LeavesRuns format wishes runs old new = (count : ℕ) × Appends old new (take count (lines_in format wishes runs))
 
 -- ---- the runs in some folders
 
--- The lines of the runs in these folders are written, a tally stands for them too, and these are the folders of those
--- that fail, if they are wanted.
-pub record TestsMore (files : List ℕ → File) (options : Options) (wishes : List Condition) (is_wanted : Bool)
-    (folders : List (List ℕ)) (before after : Tally) (failing : List (List ℕ)) (old new : Option (List ℕ)) : Type 0
-  where
-    pub runs : List Run
-    pub are_runs : AllZip (IsRunIn files options wishes) folders runs
-    pub writes : WritesRuns wishes is_wanted runs before after [] failing old new
+-- What is due of the runs in these folders before the end is written, records stand for them too, and these are the
+-- folders of those that fail, if they are wanted.
+pub record TestsMore (files : List ℕ → File) (options : Options) (wishes : List Condition) (format : Format)
+    (is_wanted : Bool) (folders : List (List ℕ)) (before after : Records) (failing : List (List ℕ))
+    (old new : Option (List ℕ)) : Type 0 where
+  pub runs : List Run
+  pub are_runs : AllZip (IsRunIn files options wishes) folders runs
+  pub writes : WritesRuns format wishes is_wanted runs before after [] failing old new
 
--- a prefix of the lines of the first runs in these folders is written
-pub record LeavesMore (files : List ℕ → File) (options : Options) (wishes : List Condition)
+-- a prefix of what is due of the first runs in these folders before the end is written
+pub record LeavesMore (files : List ℕ → File) (options : Options) (wishes : List Condition) (format : Format)
     (folders : List (List ℕ)) (old new : Option (List ℕ)) : Type 0 where
   pub count : ℕ
   pub runs : List Run
   pub are_runs : AllZip (IsRunIn files options wishes) (take count folders) runs
-  pub left : LeavesRuns wishes runs old new
+  pub left : LeavesRuns format wishes runs old new
 
 -- ---- all runs so far
 
--- The lines of the runs in these folders are written, and a tally stands for them.
-pub record AreTested (files : List ℕ → File) (options : Options) (wishes : List Condition) (folders : List (List ℕ))
-    (tally : Tally) (old new : Option (List ℕ)) : Type 0 where
+-- What is due of the runs in these folders before the end is written, and records stand for them.
+pub record AreTested (files : List ℕ → File) (options : Options) (wishes : List Condition) (format : Format)
+    (wanted : Wanted) (folders : List (List ℕ)) (records : Records) (old new : Option (List ℕ)) : Type 0 where
   pub runs : List Run
   pub are_runs : AllZip (IsRunIn files options wishes) folders runs
-  pub stands : Stands wishes runs tally
-  pub written : Appends old new (lines_text wishes runs)
+  pub stands : AreRecords wanted wishes runs records
+  pub written : Appends old new (lines_in format wishes runs)
 
 -- What is written at the end of a test of these runs, and what they come to; or a prefix of it is.
-abbrev pub IsConcluded : (wishes : List Condition) (runs : List Run) → Result Conclusion EngineFault
+abbrev pub IsConcluded : (format : Format) (wishes : List Condition) (runs : List Run) → Result Conclusion EngineFault
     → (old new : Option (List ℕ)) → Type 0
-IsConcluded wishes runs (Ok end) old new =
-    (conclusion_view end ≡ conclusion wishes runs) × Appends old new (summary_text wishes runs)
-IsConcluded wishes runs (Err fault) old new = (count : ℕ) × Appends old new (take count (summary_text wishes runs))
+IsConcluded format wishes runs (Ok end) old new =
+    (conclusion_view end ≡ conclusion wishes runs) × Appends old new (end_in format wishes runs)
+IsConcluded format wishes runs (Err fault) old new =
+    (count : ℕ) × Appends old new (take count (end_in format wishes runs))

@@ -1,11 +1,13 @@
 -- What a test of recorded runs leaves on its output, by the files in their folders.
-use Rattle.std.specs.Prelude.{◌≡◌, ◌⊎◌, ⊤, ℕ, List, [], ◌∷◌, ◌++◌, codes, map, take, Option, Some, None, Result, Ok, Err}
+use Rattle.std.specs.Prelude.{◌≡◌, ◌⊎◌, ⊤, ℕ, Bool, true, false, List, [], ◌∷◌, ◌++◌, codes, map, take, Option, Some, None, Result, Ok, Err}
 use Rattle.std.specs.List.{AllZip, slice_get}
 use Rattle.def_format.specs.Documents.{Document, DocumentFault, Inquiry, IsDocument, IsRefusedDocument, Options}
 use Rattle.def_format.specs.Names.{ProcessNames}
 use Rattle.def_format.specs.Reports.{Report}
 use Rattle.def_judgement.specs.Writes.{Source, Whole, Writes}
+use Rattle.app_arguments.specs.Formats.{Format, Plain, Json}
 use Rattle.app_arguments.specs.Statuses.{Alarm, Ending, Failed, File, MayBeUnread, MemoryFailure, Negative, OfDocument, Success, WriteFailure, WritesUpTo, sources_of}
+use Rattle.judge_results.specs.Results.{results_json}
 use Rattle.judge_runs.specs.Runs.{AllPass, Conclusion, Outcome, Reported, Run, SomeFails, SomeNotJudged, Unnamed, Unread, conclusion, test_text}
 use Rattle.judge_runs.specs.Views.{conclusion_view}
 use Rattle.def_judgement.specs.Findings.{names_asked}
@@ -60,30 +62,36 @@ IsOutcome files options wishes folder outcome =
 
 -- ---- the text
 
--- The text of a test of the runs in these folders. Of the runs this is said.
-pub record IsTestText (files : List ℕ → File) (options : Options) (wishes : List Condition) (IsSaid : List Run → Type 0)
-    (folders : List (List ℕ)) (text : List ℕ) : Type 0 where
+-- the text of a test of these runs in this format
+abbrev pub text_in : Format → List Condition → List Run → List ℕ
+text_in Plain wishes runs = test_text wishes runs
+text_in Json wishes runs = results_json wishes runs
+
+-- The text of a test of the runs in these folders, in this format. Of the runs this is said.
+pub record IsTestText (files : List ℕ → File) (options : Options) (wishes : List Condition) (format : Format)
+    (IsSaid : List Run → Type 0) (folders : List (List ℕ)) (text : List ℕ) : Type 0 where
   pub runs : List Run
   pub are_runs : AllZip (λ folder (run : Run). (run.folder ≡ folder)
       × IsOutcome files options wishes folder run.outcome) folders runs
   pub said : IsSaid runs
-  pub is_text : text ≡ test_text wishes runs
+  pub is_text : text ≡ text_in format wishes runs
 
 -- What a test leaves. All runs pass, or one fails, or one isn't judged: the text of the test of all runs. The output
 -- fails, or memory runs out: the text of a test of the first of them, or a prefix of it.
-abbrev pub TestLeaves : (files : List ℕ → File) (options : Options) (wishes : List Condition) (folders : List (List ℕ))
-    → Ending → (old new : Option (List ℕ)) → Type 0
-TestLeaves files options wishes folders Success old new =
-    Writes (IsTestText files options wishes (λ runs. conclusion wishes runs ≡ AllPass) folders) Whole old new
-TestLeaves files options wishes folders Alarm old new =
-    Writes (IsTestText files options wishes (λ runs. conclusion wishes runs ≡ SomeFails) folders) Whole old new
-TestLeaves files options wishes folders Negative old new =
-    Writes (IsTestText files options wishes (λ runs. conclusion wishes runs ≡ SomeNotJudged) folders) Whole old new
-TestLeaves files options wishes folders (Failed WriteFailure) old new =
-    (count : ℕ) × WritesUpTo (IsTestText files options wishes (λ _. ⊤) (take count folders)) old new
-TestLeaves files options wishes folders (Failed MemoryFailure) old new =
-    (count : ℕ) × WritesUpTo (IsTestText files options wishes (λ _. ⊤) (take count folders)) old new
-TestLeaves files options wishes folders _ old new = ⊥
+abbrev pub TestLeaves : (files : List ℕ → File) (options : Options) (wishes : List Condition) (format : Format)
+    (folders : List (List ℕ)) → Ending → (old new : Option (List ℕ)) → Type 0
+TestLeaves files options wishes format folders Success old new =
+    Writes (IsTestText files options wishes format (λ runs. conclusion wishes runs ≡ AllPass) folders) Whole old new
+TestLeaves files options wishes format folders Alarm old new =
+    Writes (IsTestText files options wishes format (λ runs. conclusion wishes runs ≡ SomeFails) folders) Whole old new
+TestLeaves files options wishes format folders Negative old new =
+    Writes (IsTestText files options wishes format (λ runs. conclusion wishes runs ≡ SomeNotJudged) folders)
+    Whole old new
+TestLeaves files options wishes format folders (Failed WriteFailure) old new =
+    (count : ℕ) × WritesUpTo (IsTestText files options wishes format (λ _. ⊤) (take count folders)) old new
+TestLeaves files options wishes format folders (Failed MemoryFailure) old new =
+    (count : ℕ) × WritesUpTo (IsTestText files options wishes format (λ _. ⊤) (take count folders)) old new
+TestLeaves files options wishes format folders _ old new = ⊥
 
 -- ---- names for parts of this, by which contracts speak of them
 
@@ -108,3 +116,8 @@ ending_of SomeNotJudged = Negative
 abbrev pub test_ending : Result conclusions.Conclusion EngineFault → Ending
 test_ending (Ok end) = ending_of (conclusion_view end)
 test_ending (Err fault) = Failed (failure_view fault)
+
+-- it is one JSON object
+abbrev pub is_json : Format → Bool
+is_json Plain = false
+is_json Json = true

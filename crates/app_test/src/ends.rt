@@ -47,6 +47,19 @@ pub struct PagesEnd<'a> {
     pub failure: Option<&'a str>,
 }
 
+/// What came of the files of results.
+#[derive(Clone, Copy)]
+pub struct ResultsEnd<'a> {
+    /// The name of the file of JSON, if it was wanted.
+    pub json: Option<&'a str>,
+    /// The name of the file of JUnit, if it was wanted.
+    pub junit: Option<&'a str>,
+    /// Whether all are written that were wanted.
+    pub are_whole: bool,
+    /// Which couldn't be written first, and why, if there was memory for that.
+    pub failure: Option<&'a str>,
+}
+
 /// Says where the pages of runs that fail are, if there are some.
 fn put_pages(out: &mut Vec<u8>, pages: PagesEnd<'_>) -> Result<(), AllocError> {
     match pages.folder {
@@ -80,37 +93,90 @@ pages.",
     put_pages(out, pages)
 }
 
-/// Explains how a test ended, and says where pages are.
+/// Says which file has the results of the runs in this form, if it was wanted.
+fn put_file(out: &mut Vec<u8>, form: &str, file: Option<&str>) -> Result<(), AllocError> {
+    let Some(name) = file else {
+        return Ok(());
+    };
+    say(out, "The results of the runs are written ")?;
+    say(out, form)?;
+    say(out, " into the file ")?;
+    say_name(out, name)?;
+    say(out, ".\n")
+}
+
+/// Says where the results of the runs are, if there are files of them.
+fn put_files(out: &mut Vec<u8>, results: ResultsEnd<'_>) -> Result<(), AllocError> {
+    put_file(out, "as one JSON object", results.json)?;
+    put_file(out, "as a file of JUnit", results.junit)
+}
+
+/// Explains that not all files of results could be written.
+fn put_unwritten_files(out: &mut Vec<u8>, results: ResultsEnd<'_>) -> Result<(), AllocError> {
+    say(out, "Not all files of results are written. ")?;
+    if let Some(why) = results.failure {
+        say_shown(out, why.as_bytes())?;
+        say(out, ".\n")?;
+    }
+    say_advice(
+        out,
+        "the name of a file in a folder in which files can be written, and room for it.",
+        "give another name after --json or --junit, or make room.",
+    )
+}
+
+/// Explains that pages or files of results couldn't be written.
+fn put_unwritten_beside(
+    out: &mut Vec<u8>,
+    pages: PagesEnd<'_>,
+    results: ResultsEnd<'_>,
+) -> Result<(), AllocError> {
+    if !pages.are_whole {
+        put_unwritten(out, pages)?;
+    }
+    if !results.are_whole {
+        put_unwritten_files(out, results)?;
+    }
+    Ok(())
+}
+
+/// Explains how a test ended, and says where pages and files of results are.
 fn put_test<Y: System>(
     out: &mut Vec<u8>,
     world: &World<'_, Y>,
     end: &Result<Conclusion, EngineFault>,
     pages: PagesEnd<'_>,
+    results: ResultsEnd<'_>,
 ) -> Result<(), AllocError> {
     match end {
-        Ok(Conclusion::AllPass) => Ok(()),
+        Ok(Conclusion::AllPass) => put_files(out, results),
         Ok(Conclusion::SomeFails | Conclusion::SomeNotJudged) => {
             say(
                 out,
                 "What to do: a run is explained by `monitor judge --explain --beyond-width RUN/session.json \
 RUN/*.stream`, and shown by `monitor explore --beyond-width` with the same files.\n",
             )?;
-            put_pages(out, pages)
+            put_pages(out, pages)?;
+            put_files(out, results)
         }
-        Err(EngineFault::Write) if !pages.are_whole => put_unwritten(out, pages),
+        Err(EngineFault::Write) if !pages.are_whole || !results.are_whole => {
+            put_unwritten_beside(out, pages, results)
+        }
         Err(fault) => put_fault(out, world, None, "", &[], fault),
     }
 }
 
-/// The explanation of how a test ended, as far as it could be made, with where pages are; empty if none is wanted.
+/// The explanation of how a test ended, as far as it could be made, with where pages and files of results are; empty if
+/// none is wanted.
 pub fn test_text<Y: System>(
     world: &World<'_, Y>,
     end: &Result<Conclusion, EngineFault>,
     pages: PagesEnd<'_>,
+    results: ResultsEnd<'_>,
 ) -> Vec<u8> {
     let mut out = Vec::new(world.alloc);
     if world.explain {
-        let _ = put_test(&mut out, world, end, pages);
+        let _ = put_test(&mut out, world, end, pages, results);
     }
     rows_of(world.alloc, out)
 }

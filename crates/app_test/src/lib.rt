@@ -17,6 +17,7 @@
 //! - `job`: a run whose files are open, up to what comes of it
 //! - `jobs`: runs whose files are open, judged side by side
 //! - `run`: opens the files of a run
+//! - `records`: what is kept of the runs so far
 //! - `tests`: tests runs, some at a time
 //! - `ends`: how a test ended: the exit status, what is reported, and an explanation
 #![tactic(auto)]
@@ -24,6 +25,7 @@
 mod ends;
 mod job;
 mod jobs;
+mod records;
 mod run;
 mod run_document;
 mod run_files;
@@ -31,7 +33,8 @@ mod run_streams;
 mod tests;
 mod unopened;
 
-pub use ends::{PagesEnd, report_test, test_text};
+pub use ends::{PagesEnd, ResultsEnd, report_test, test_text};
+pub use records::Records;
 pub use run_document::read_run_document;
 pub use run_files::{document_in, stream_in};
 pub use run_streams::open_streams;

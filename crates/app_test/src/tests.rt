@@ -1,22 +1,25 @@
 //! Tests runs, some at a time.
-ghost use Rattle.app_arguments.specs.Views.{names_view};
+ghost use Rattle.app_arguments.specs.Formats.{Json};
+ghost use Rattle.app_arguments.specs.Views.{format_view, names_view};
 ghost use Rattle.app_test.specs.Jobs.{run_of, runs_of};
-ghost use Rattle.app_test.specs.TestedRuns.{EndsTest, IsConcluded, IsLineWritten, LeavesMore, LeavesRuns, TestsMore, WritesResult, WritesRuns, failing_in, fails_run};
-ghost use Rattle.judge_runs.specs.Runs.{Run};
+ghost use Rattle.app_test.specs.TestedRuns.{EndsTest, IsConcluded, LeavesMore, LeavesRuns, TestsMore, WritesResult, WritesRuns, end_in, failing_in, fails_run, lines_in};
+ghost use Rattle.judge_results.specs.Results.{results_json};
+ghost use Rattle.judge_runs.specs.Runs.{Run, line_of};
 ghost use Rattle.judge_runs.specs.Tallies.{Stands};
 ghost use Rattle.judge_runs.specs.Views.{wishes_view};
 ghost use Rattle.judge_runs.specs.Wishes as wished;
 ghost use Rattle.pd_spec.specs.Views.{options_view};
-ghost use Rattle.std.specs.Prelude.{◌≡◌, ◌++◌, ◌∷◌, [], IfErr, IfOk, List, OnErr, OnOk, length, true};
+ghost use Rattle.std.specs.Io.KnownBytes.{Appends};
+ghost use Rattle.std.specs.Prelude.{◌≡◌, ◌++◌, ◌∷◌, [], IfErr, IfOk, List, OnErr, OnOk, is_some, length, take, true, ℕ};
 
 use super::jobs::outcomes_of_jobs;
+use super::records::Records;
 use super::run::jobs_of;
-use app_arguments::Workers;
+use app_arguments::{Format, Test};
 use app_host::{System, World, write_flushed};
 use judge_runs::{Conclusion, Outcome, Tally, Wish};
 use judge_session::EngineFault;
 use pd_engine::Gate;
-use pd_spec::Options;
 use std::alloc::{AllocError, Global};
 use std::io::Write;
 
@@ -41,77 +44,108 @@ fn is_failing(
     }
 }
 
-/// Adds the folder of a run of which this comes, if that is wanted and the run fails.
+/// What is asked of runs that are tested.
+#[derive(Clone, Copy)]
+struct Asked<'a, 'w> {
+    /// What is wished of their predicates.
+    wishes: &'a [Wish<'w>],
+    /// The format of what is written.
+    format: Format,
+    /// Whether pages of those that fail are wanted.
+    has_pages: bool,
+}
+
+/// Adds the folder of a run of which this comes, if pages are wanted and the run fails.
 ///
 /// # Errors
 /// An allocation was refused.
 fn note_failing<'f>(
     alloc: Global,
-    wishes: &[Wish<'_>],
+    asked: &Asked<'_, '_>,
     folder: &'f str,
     outcome: &Outcome,
-    is_wanted: bool,
     failing: &mut Vec<&'f str>,
 ) -> Result<(), AllocError>
-    ensures { OnOk result (is_wanted ≡ true → names_view failing.new.items
-        ≡ names_view failing.old.items ++ failing_in (wishes_view wishes.now) (run_of folder.now outcome.now ∷ [])) }
+    ensures { OnOk result (asked.now.has_pages ≡ true → names_view failing.new.items ≡ names_view failing.old.items
+        ++ failing_in (wishes_view asked.now.wishes.now) (run_of folder.now outcome.now ∷ [])) }
 {
-    if is_wanted && is_failing(alloc, wishes, folder, outcome)? {
+    if asked.has_pages && is_failing(alloc, asked.wishes, folder, outcome)? {
         failing.push(folder)?;
     }
     Ok(())
 }
 
-/// Writes the line of the run in this folder, of which this comes, and flushes the output.
+/// Writes the line of a run, if lines are written, and flushes the output.
+///
+/// # Errors
+/// `Write` leaves a prefix of the line written, or all of it if only the flush failed.
+fn write_line<O: Write>(format: Format, line: &[u8], output: &mut O) -> Result<(), EngineFault>
+    ensures written { (wishes : List wished.Condition) (run : Run) → line.now ≡ line_of wishes run
+        → OnOk result (Appends (O.contents output.old) (O.contents output.new)
+        (lines_in (format_view format) wishes (run ∷ []))) }
+    ensures left { (wishes : List wished.Condition) (run : Run) → line.now ≡ line_of wishes run
+        → OnErr result (LeavesRuns (format_view format) wishes (run ∷ []) (O.contents output.old)
+        (O.contents output.new)) }
+    ensures err { IfErr result EndsTest }
+{
+    match format {
+        Format::Plain => write_flushed(line, output),
+        Format::Json => Ok(()),
+    }
+}
+
+/// Writes the line of the run in this folder, of which this comes, if lines are written, and flushes the output.
 ///
 /// # Errors
 /// `Memory` leaves nothing written of it. `Write` leaves a prefix of the line written, or all of it if only the flush
 /// failed.
 fn write_run<O: Write>(
     alloc: Global,
-    wishes: &[Wish<'_>],
+    asked: &Asked<'_, '_>,
     folder: &str,
     outcome: &Outcome,
     tally: &mut Tally,
     output: &mut O,
 ) -> Result<(), EngineFault>
-    ensures stands { OnOk result ((before : List Run) → Stands (wishes_view wishes.now) before tally.old
-        → Stands (wishes_view wishes.now) (before ++ run_of folder.now outcome.now ∷ []) tally.new) }
-    ensures written { OnOk result (IsLineWritten (wishes_view wishes.now) (run_of folder.now outcome.now)
-        (O.contents output.old) (O.contents output.new)) }
-    ensures left { OnErr result (LeavesRuns (wishes_view wishes.now) (run_of folder.now outcome.now ∷ [])
-        (O.contents output.old) (O.contents output.new)) }
+    ensures stands { OnOk result ((before : List Run) → Stands (wishes_view asked.now.wishes.now) before tally.old
+        → Stands (wishes_view asked.now.wishes.now) (before ++ run_of folder.now outcome.now ∷ []) tally.new) }
+    ensures written { OnOk result (Appends (O.contents output.old) (O.contents output.new)
+        (lines_in (format_view asked.now.format) (wishes_view asked.now.wishes.now)
+        (run_of folder.now outcome.now ∷ []))) }
+    ensures left { OnErr result (LeavesRuns (format_view asked.now.format) (wishes_view asked.now.wishes.now)
+        (run_of folder.now outcome.now ∷ []) (O.contents output.old) (O.contents output.new)) }
     ensures err { IfErr result EndsTest }
 {
-    let line = tally.add(alloc, wishes, folder, outcome)?;
-    write_flushed(&line, output)
+    let line = tally.add(alloc, asked.wishes, folder, outcome)?;
+    write_line(asked.format, &line, output)
 }
 
-/// Writes the line of the run in this folder, of which this comes, flushes the output, and adds the folder, if that is
-/// wanted and the run fails.
+/// Writes the line of the run in this folder, of which this comes, if lines are written, flushes the output, and adds
+/// the run to the records, and the folder, if pages are wanted and the run fails.
 ///
 /// # Errors
 /// `Memory` leaves the line written or nothing of it. `Write` leaves a prefix of the line written, or all of it if only
 /// the flush failed.
 fn put_known<'f, O: Write>(
     alloc: Global,
-    wishes: &[Wish<'_>],
+    asked: &Asked<'_, '_>,
     folder: &'f str,
     outcome: &Outcome,
-    is_wanted: bool,
     failing: &mut Vec<&'f str>,
-    tally: &mut Tally,
+    records: &mut Records,
     output: &mut O,
 ) -> Result<(), EngineFault>
-    ensures written { OnOk result (WritesRuns (wishes_view wishes.now) is_wanted (run_of folder.now outcome.now ∷ [])
-        tally.old tally.new (names_view failing.old.items) (names_view failing.new.items) (O.contents output.old)
+    ensures written { OnOk result (WritesRuns (format_view asked.now.format) (wishes_view asked.now.wishes.now)
+        asked.now.has_pages (run_of folder.now outcome.now ∷ []) records.old records.new
+        (names_view failing.old.items) (names_view failing.new.items) (O.contents output.old)
         (O.contents output.new)) }
-    ensures left { OnErr result (LeavesRuns (wishes_view wishes.now) (run_of folder.now outcome.now ∷ [])
-        (O.contents output.old) (O.contents output.new)) }
+    ensures left { OnErr result (LeavesRuns (format_view asked.now.format) (wishes_view asked.now.wishes.now)
+        (run_of folder.now outcome.now ∷ []) (O.contents output.old) (O.contents output.new)) }
     ensures err { IfErr result EndsTest }
 {
-    write_run(alloc, wishes, folder, outcome, tally, output)?;
-    note_failing(alloc, wishes, folder, outcome, is_wanted, failing)?;
+    write_run(alloc, asked, folder, outcome, &mut records.tally, output)?;
+    records.results.add(alloc, asked.wishes, folder, outcome)?;
+    note_failing(alloc, asked, folder, outcome, failing)?;
     Ok(())
 }
 
@@ -121,124 +155,167 @@ fn put_known<'f, O: Write>(
 /// As `put_known`.
 fn put_run<'f, O: Write>(
     alloc: Global,
-    wishes: &[Wish<'_>],
+    asked: &Asked<'_, '_>,
     folder: &'f str,
     found: &Result<Outcome, EngineFault>,
-    is_wanted: bool,
     failing: &mut Vec<&'f str>,
-    tally: &mut Tally,
+    records: &mut Records,
     output: &mut O,
 ) -> Result<(), EngineFault>
-    ensures written { OnOk result (WritesResult (wishes_view wishes.now) is_wanted folder.now found.now tally.old
-        tally.new (names_view failing.old.items) (names_view failing.new.items) (O.contents output.old)
-        (O.contents output.new)) }
-    ensures left { OnErr result (LeavesRuns (wishes_view wishes.now) (runs_of (folder.now ∷ []) (found.now ∷ []))
-        (O.contents output.old) (O.contents output.new)) }
+    ensures written { OnOk result (WritesResult (format_view asked.now.format) (wishes_view asked.now.wishes.now)
+        asked.now.has_pages folder.now found.now records.old records.new (names_view failing.old.items)
+        (names_view failing.new.items) (O.contents output.old) (O.contents output.new)) }
+    ensures left { OnErr result (LeavesRuns (format_view asked.now.format) (wishes_view asked.now.wishes.now)
+        (runs_of (folder.now ∷ []) (found.now ∷ [])) (O.contents output.old) (O.contents output.new)) }
     ensures err { IfErr result EndsTest }
 {
     match found {
-        Ok(outcome) => put_known(
-            alloc, wishes, folder, outcome, is_wanted, failing, tally, output,
-        ),
+        Ok(outcome) => put_known(alloc, asked, folder, outcome, failing, records, output),
         Err(_) => Err(EngineFault::Memory),
     }
 }
 
-/// Writes the lines of the runs in these folders, of which this comes, in their order, and flushes the output after
-/// each. It gives the folders of those that fail, if that is wanted.
+/// Writes the lines of the runs in these folders, of which this comes, in their order, if lines are written, flushes
+/// the output after each, and adds the runs to the records. It gives the folders of those that fail, if pages are
+/// wanted.
 ///
 /// # Errors
 /// `Memory` leaves the lines of the runs before written. `Write` leaves a prefix of the lines written, or all of them
 /// if only the last flush failed.
 fn put_runs<'f, O: Write>(
     alloc: Global,
-    wishes: &[Wish<'_>],
+    asked: &Asked<'_, '_>,
     folders: &[&'f str],
     found: &[Result<Outcome, EngineFault>],
-    is_wanted: bool,
-    tally: &mut Tally,
+    records: &mut Records,
     output: &mut O,
 ) -> Result<Vec<&'f str>, EngineFault>
     requires { length found.now ≡ length folders.now }
     ensures whole { IfOk result (λ _. length (runs_of (names_view folders.now) found.now) ≡ length folders.now) }
-    ensures written { IfOk result (λ failing. WritesRuns (wishes_view wishes.now) is_wanted
-        (runs_of (names_view folders.now) found.now) tally.old tally.new [] (names_view failing.items)
-        (O.contents output.old) (O.contents output.new)) }
-    ensures left { OnErr result (LeavesRuns (wishes_view wishes.now) (runs_of (names_view folders.now) found.now)
-        (O.contents output.old) (O.contents output.new)) }
+    ensures written { IfOk result (λ failing. WritesRuns (format_view asked.now.format)
+        (wishes_view asked.now.wishes.now) asked.now.has_pages (runs_of (names_view folders.now) found.now)
+        records.old records.new [] (names_view failing.items) (O.contents output.old) (O.contents output.new)) }
+    ensures left { OnErr result (LeavesRuns (format_view asked.now.format) (wishes_view asked.now.wishes.now)
+        (runs_of (names_view folders.now) found.now) (O.contents output.old) (O.contents output.new)) }
     ensures err { IfErr result EndsTest }
 {
     let mut failing = Vec::new(alloc);
     for place in 0..folders.len() {
         let (folder, one) = (folders[place], &found[place]);
-        put_run(
-            alloc,
-            wishes,
-            folder,
-            one,
-            is_wanted,
-            &mut failing,
-            tally,
-            output,
-        )?;
+        put_run(alloc, asked, folder, one, &mut failing, records, output)?;
     }
     Ok(failing)
 }
 
 /// Tests the runs in these folders side by side: opens their files, judges each in a thread of its own, writes their
-/// lines in the order of the folders, and flushes the output after each. It gives the folders of the runs that fail, if
-/// that is wanted. The workers, which share the work on one run, and the gate change how long it takes, and nothing
-/// else.
+/// lines in the order of the folders, if lines are written, flushes the output after each, and adds the runs to the
+/// records. It gives the folders of the runs that fail, if pages are wanted. The workers, which share the work on one
+/// run, and the gate change how long it takes, and nothing else.
 ///
 /// # Errors
 /// `Memory` leaves the lines of the first runs written, or none. `Write` leaves a prefix of the lines written, or all
 /// of them if only the last flush failed.
-pub fn test_some<'f, Y: System, G: Gate + Sync, O: Write>(
+fn test_asked<'f, Y: System, G: Gate + Sync, O: Write>(
     world: &World<'_, Y>,
+    test: &Test<'_>,
+    asked: &Asked<'_, '_>,
     folders: &[&'f str],
-    options: &Options<'_>,
-    wishes: &[Wish<'_>],
-    workers: &Workers,
     gate: &G,
-    is_wanted: bool,
-    tally: &mut Tally,
+    records: &mut Records,
     output: &mut O,
 ) -> Result<Vec<&'f str>, EngineFault>
-    ensures tested { IfOk result (λ failing. TestsMore (Y.Files.file_of world.now.files.now) (options_view options.now)
-        (wishes_view wishes.now) is_wanted (names_view folders.now) tally.old tally.new (names_view failing.items)
+    ensures tested { IfOk result (λ failing. TestsMore (Y.Files.file_of world.now.files.now)
+        (options_view test.now.options) (wishes_view asked.now.wishes.now) (format_view asked.now.format)
+        asked.now.has_pages (names_view folders.now) records.old records.new (names_view failing.items)
         (O.contents output.old) (O.contents output.new)) }
-    ensures left { OnErr result (LeavesMore (Y.Files.file_of world.now.files.now) (options_view options.now)
-        (wishes_view wishes.now) (names_view folders.now) (O.contents output.old) (O.contents output.new)) }
+    ensures left { OnErr result (LeavesMore (Y.Files.file_of world.now.files.now) (options_view test.now.options)
+        (wishes_view asked.now.wishes.now) (format_view asked.now.format) (names_view folders.now)
+        (O.contents output.old) (O.contents output.new)) }
     ensures err { IfErr result EndsTest }
 {
-    let jobs = jobs_of(world, folders, options, wishes)?;
-    let found = outcomes_of_jobs(world.rt, &world.alloc, options, workers.count(), gate, jobs)?;
-    put_runs(
-        world.alloc,
-        wishes,
-        folders,
-        &found,
-        is_wanted,
-        tally,
-        output,
-    )
+    let jobs = jobs_of(world, folders, &test.options, asked.wishes)?;
+    let workers = test.workers.count();
+    let found = outcomes_of_jobs(world.rt, &world.alloc, &test.options, workers, gate, jobs)?;
+    put_runs(world.alloc, asked, folders, &found, records, output)
 }
 
-/// Writes the summary of the runs that a tally stands for, and flushes the output. It gives what they come to.
+/// Tests the runs in these folders side by side, as `test_asked`.
 ///
 /// # Errors
-/// `Memory` leaves nothing written. `Write` leaves a prefix of the summary written, or all of it if only the flush
-/// failed.
+/// As `test_asked`.
+pub fn test_some<'f, Y: System, G: Gate + Sync, O: Write>(
+    world: &World<'_, Y>,
+    test: &Test<'_>,
+    folders: &[&'f str],
+    gate: &G,
+    records: &mut Records,
+    output: &mut O,
+) -> Result<Vec<&'f str>, EngineFault>
+    ensures tested { IfOk result (λ failing. TestsMore (Y.Files.file_of world.now.files.now)
+        (options_view test.now.options) (wishes_view test.now.wishes.items) (format_view test.now.format)
+        (is_some test.now.pages) (names_view folders.now) records.old records.new (names_view failing.items)
+        (O.contents output.old) (O.contents output.new)) }
+    ensures left { OnErr result (LeavesMore (Y.Files.file_of world.now.files.now) (options_view test.now.options)
+        (wishes_view test.now.wishes.items) (format_view test.now.format) (names_view folders.now)
+        (O.contents output.old) (O.contents output.new)) }
+    ensures err { IfErr result EndsTest }
+{
+    let asked = Asked {
+        wishes: &test.wishes,
+        format: test.format,
+        has_pages: test.pages.is_some(),
+    };
+    test_asked(world, test, &asked, folders, gate, records, output)
+}
+
+/// Writes what is due at the end, and flushes the output: the summary of the runs that a tally stands for, or this JSON
+/// text.
+///
+/// # Errors
+/// `Memory` leaves nothing written. `Write` leaves a prefix of it written, or all of it if only the flush failed.
+fn write_end<O: Write>(
+    alloc: Global,
+    tally: &Tally,
+    format: Format,
+    json: &[u8],
+    output: &mut O,
+) -> Result<(), EngineFault>
+    ensures written { (wishes : List wished.Condition) (runs : List Run) → Stands wishes runs tally.now
+        → (format_view format ≡ Json → json.now ≡ results_json wishes runs)
+        → OnOk result (Appends (O.contents output.old) (O.contents output.new)
+        (end_in (format_view format) wishes runs)) }
+    ensures left { (wishes : List wished.Condition) (runs : List Run) → Stands wishes runs tally.now
+        → (format_view format ≡ Json → json.now ≡ results_json wishes runs)
+        → OnErr result ((count : ℕ) × Appends (O.contents output.old) (O.contents output.new)
+        (take count (end_in (format_view format) wishes runs))) }
+    ensures err { IfErr result EndsTest }
+{
+    match format {
+        Format::Plain => {
+            let summary = tally.summary(alloc)?;
+            write_flushed(&summary, output)
+        }
+        Format::Json => write_flushed(json, output),
+    }
+}
+
+/// Writes what is due at the end, and flushes the output: the summary of the runs that a tally stands for, or the JSON
+/// text of their results. It gives what they come to.
+///
+/// # Errors
+/// `Memory` leaves nothing written. `Write` leaves a prefix of it written, or all of it if only the flush failed.
 pub fn conclude<O: Write>(
     alloc: Global,
     tally: &Tally,
+    format: Format,
+    json: &[u8],
     output: &mut O,
 ) -> Result<Conclusion, EngineFault>
     ensures end { (wishes : List wished.Condition) (runs : List Run) → Stands wishes runs tally.now
-        → IsConcluded wishes runs result (O.contents output.old) (O.contents output.new) }
+        → (format_view format ≡ Json → json.now ≡ results_json wishes runs)
+        → IsConcluded (format_view format) wishes runs result (O.contents output.old) (O.contents output.new) }
     ensures err { IfErr result EndsTest }
 {
-    let summary = tally.summary(alloc)?;
-    write_flushed(&summary, output)?;
+    write_end(alloc, tally, format, json, output)?;
     Ok(tally.conclusion())
 }

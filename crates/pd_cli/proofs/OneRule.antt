@@ -8,20 +8,20 @@ use Rattle.def_format.specs.Documents.{Document, Inquiry, IsDocument, Options}
 use Rattle.def_format.specs.Reports.{Report, Judged, Refused}
 use Rattle.def_format.specs.Lists.{is_one_of}
 use Rattle.def_judgement.specs.Findings.{is_clean}
-use Rattle.def_judgement.specs.Writes.{IsBrokenOff, IsFindingTextOf, IsJudged, IsRefused, IsTextOfBundle, IsTooLong, Source, Whole}
+use Rattle.def_judgement.specs.Writes.{IsBrokenOff, IsJudged, IsRefused, IsTextOfBundle, IsTooLong, Source, Whole}
 use Rattle.def_judgement.proofs.CleanFindings.{clean_is_clean_lem}
-use Rattle.def_judgement.proofs.TextsOwed.{weaker_said_of_bundle, weaker_said_of_streams}
+use Rattle.def_judgement.proofs.TextsOwed.{weaker_said_of_bundle}
 use Rattle.def_judgement.proofs.Writing.{writes_weaker}
 use Rattle.app_arguments.specs.Arguments.{AsksFor}
 use Rattle.app_arguments.specs.Conditions.{is_met, unknown_name}
 use Rattle.app_arguments.specs.Conditions as conditions
-use Rattle.app_arguments.specs.Formats.{Format, Plain, Json}
+use Rattle.app_arguments.specs.Formats.{Format}
 use Rattle.app_arguments.specs.Places.{Place}
 use Rattle.app_arguments.specs.Statuses.{Alarm, BundleFailure, BundleRuns, CheckFiles, ComesTo, DrawFiles, Ending, Ends, ExploreFiles, Failed, Failure, File, HasNamed as HasNamedBy, HelpLeaves, InferDocument, IsTextOfAccepted, JudgeFiles, JudgeInput, JudgeLines, JudgementLeaves, LacksNamed, LeavesOf, MayBeUnread, MemoryFailure, MergeLines, Misuse, MisuseLeaves, Negative, NetworkFailure, NoPredicate, OfClaim, OfConnections, OfDocument, OfFinding, OfNamed, OfReport, PageOptions, ReadFailure, Reports, Request, ServeStreams, ServiceMayFail, SessionLeaves, ShowHelp, ShowVersion, Success, TestRuns, Unclear, VersionLeaves, WriteFailure, WritesUpTo, sources_of, status_of}
 use Rattle.app_host.proofs.FilesRead.{up_to_weaker}
-use Rattle.app_host.proofs.JsonReports.{weaker_said_of_json}
+use Rattle.app_host.proofs.JsonReports.{weaker_said_in}
 use Rattle.app_host.specs.FileSources.{bytes_in}
-use Rattle.app_host.specs.Formats.{IsFormatted, OfFormat}
+use Rattle.app_host.specs.Formats.{IsFindingIn, IsFormatted, OfFormat}
 use Rattle.app_serve.specs.Kept.{WritesFiles}
 use Rattle.app_test.specs.Tests.{IsTestText, TestLeaves}
 use Rattle.judge_explore.proofs.Written.{owed_weaker}
@@ -241,8 +241,7 @@ module _ (options : Options) (document : File) (IsUnread : Type 0) (fail_on : Li
 
 format_follows : (format : Format) (inquiry : Inquiry) (inputs : List Source)
     → Follows (IsFormatted format inquiry inputs)
-format_follows Plain inquiry inputs = weaker_said_of_streams inquiry inputs
-format_follows Json inquiry inputs = weaker_said_of_json inquiry inputs
+format_follows format inquiry inputs = weaker_said_in format inquiry inputs
 
 files_left : (files : List ℕ → File) (options : Options) (fail_on : List Condition) (format : Format)
     (document : List ℕ) (streams : List (List ℕ)) (old new : Option (List ℕ)) (ending : Ending)
@@ -259,51 +258,54 @@ files_left files options fail_on format document streams old new =
 
 -- ---- connections
 
-accepted_follows : (inquiry : Inquiry) (G : Source → Type 0) → Follows (IsTextOfAccepted inquiry G)
-accepted_follows inquiry G P Q text go h = record {
+accepted_follows : (format : Format) (inquiry : Inquiry) (G : Source → Type 0)
+    → Follows (IsTextOfAccepted (IsFormatted format) inquiry G)
+accepted_follows format inquiry G P Q text go h = record {
   inputs = h.inputs;
   accepted = h.accepted;
   one_each = h.one_each;
   none_refused = h.none_refused;
-  is_text = weaker_said_of_streams inquiry h.inputs P Q text go h.is_text;
+  is_text = weaker_said_in format inquiry h.inputs P Q text go h.is_text;
 }
 
-module _ (G : Source → Type 0) (network_serves : Bool) (wait : Option ℕ) (port_file keep : Option (List ℕ))
-    (fail_on : List Condition) (old new : Option (List ℕ)) where
+module _ (format : Format) (G : Source → Type 0) (network_serves : Bool) (wait : Option ℕ)
+    (port_file keep : Option (List ℕ)) (fail_on : List Condition) (old new : Option (List ℕ)) where
   abbrev Served : Inquiry → Ending → (old new : Option (List ℕ)) → Type 0
   Served inquiry ending old new =
       ((ending ≡ Failed NetworkFailure) × (wait ≡ None → network_serves ≡ true → ⊥)
       ⊎ (ending ≡ Failed WriteFailure) × ((keep ≢ None) ⊎ (port_file ≢ None)))
       × ((document : Document) × IsDocument inquiry document) × Keeps old new
-      ⊎ LeavesReport (IsTextOfAccepted inquiry G) fail_on ending old new
+      ⊎ LeavesReport (IsTextOfAccepted (IsFormatted format) inquiry G) fail_on ending old new
 
   connections_left : (inquiry : Inquiry) (ending : Ending)
-      → OfConnections G (ServiceMayFail wait network_serves) (WritesFiles keep port_file) fail_on inquiry ending old new
+      → OfConnections (IsFormatted format) G (ServiceMayFail wait network_serves) (WritesFiles keep port_file) fail_on
+      inquiry ending old new
       → Served inquiry ending old new
   connections_left inquiry Success h =
-      inr (report_left _ (accepted_follows inquiry G) fail_on Success old new h)
+      inr (report_left _ (accepted_follows format inquiry G) fail_on Success old new h)
   connections_left inquiry Negative h =
-      inr (report_left _ (accepted_follows inquiry G) fail_on Negative old new h)
-  connections_left inquiry Alarm h = inr (report_left _ (accepted_follows inquiry G) fail_on Alarm old new h)
+      inr (report_left _ (accepted_follows format inquiry G) fail_on Negative old new h)
+  connections_left inquiry Alarm h = inr (report_left _ (accepted_follows format inquiry G) fail_on Alarm old new h)
   connections_left inquiry NoPredicate h = absurd h
   connections_left inquiry Misuse h = absurd h
   connections_left inquiry (Failed MemoryFailure) h = absurd h
   connections_left inquiry (Failed ReadFailure) h = absurd h
   connections_left inquiry (Failed WriteFailure) (inl h) =
-      inr (report_left _ (accepted_follows inquiry G) fail_on (Failed WriteFailure) old new h)
+      inr (report_left _ (accepted_follows format inquiry G) fail_on (Failed WriteFailure) old new h)
   connections_left inquiry (Failed WriteFailure) (inr h) = inl (inr (refl, h.0), h.1, h.2)
   connections_left inquiry (Failed BundleFailure) h = absurd h
   connections_left inquiry (Failed NetworkFailure) h = inl (inl (refl, h.0), h.1, h.2)
 
 -- ---- a claim
 
-module _ (inquiry : Inquiry) (streams : List Source) (claim : List ℕ) (old new : Option (List ℕ)) where
+module _ (format : Format) (inquiry : Inquiry) (streams : List Source) (claim : List ℕ)
+    (old new : Option (List ℕ)) where
   abbrev Found : Ending → Type 0
   Found ending = (good : Bool) × EndsBy (if good then Success else Negative) ending
-      × LeavesText (IsFindingTextOf inquiry claim streams (Some good)) ending old new
+      × LeavesText (IsFindingIn format inquiry claim streams (Some good)) ending old new
 
-  said_of : (text : List ℕ) (h : IsFindingTextOf inquiry claim streams None text)
-      → IsFindingTextOf inquiry claim streams (Some (is_clean h.finding)) text
+  said_of : (text : List ℕ) (h : IsFindingIn format inquiry claim streams None text)
+      → IsFindingIn format inquiry claim streams (Some (is_clean h.finding)) text
   said_of text h = record {
     streams = h.streams;
     are_given = h.are_given;
@@ -313,37 +315,37 @@ module _ (inquiry : Inquiry) (streams : List Source) (claim : List ℕ) (old new
     is_text = h.is_text;
   }
 
-  pub found_up_to : WritesUpTo (IsFindingTextOf inquiry claim streams None) old new → Found (Failed WriteFailure)
+  pub found_up_to : WritesUpTo (IsFindingIn format inquiry claim streams None) old new → Found (Failed WriteFailure)
   found_up_to (inl (text, is, appends)) = (is_clean is.finding, inr refl, inl (text, said_of text is, appends))
   found_up_to (inr (text, is, count, part, appends)) =
       (is_clean is.finding, inr refl, inr (text, said_of text is, count, part, appends))
 
   pub found : (good : Bool) (ending : Ending) → ending ≡ (if good then Success else Negative)
-      → LeavesText (IsFindingTextOf inquiry claim streams (Some good)) ending old new → Found ending
+      → LeavesText (IsFindingIn format inquiry claim streams (Some good)) ending old new → Found ending
   found good ending is h = (good, inl is, h)
 
 of_claim : (report : Source) (P Q : List ℕ → Type 0) → ((bytes : List ℕ) → P bytes → Q bytes)
     → OfClaim report P → OfClaim report Q
 of_claim report P Q go h = record { bytes = h.bytes; whole = h.whole; fits = h.fits; holds = go h.bytes h.holds }
 
-module _ (options : Options) (document : File) (IsUnread : Type 0) (report : Source) (streams : List Source)
-    (old new : Option (List ℕ)) where
+module _ (format : Format) (options : Options) (document : File) (IsUnread : Type 0) (report : Source)
+    (streams : List Source) (old new : Option (List ℕ)) where
   abbrev Checked : Inquiry → Ending → (old new : Option (List ℕ)) → Type 0
-  Checked inquiry ending old new = OfClaim report (λ claim. Found inquiry streams claim old new ending)
+  Checked inquiry ending old new = OfClaim report (λ claim. Found format inquiry streams claim old new ending)
 
-  finding_left : (inquiry : Inquiry) (ending : Ending) → OfFinding report streams inquiry ending old new
-      → Checked inquiry ending old new
+  finding_left : (inquiry : Inquiry) (ending : Ending)
+      → OfFinding (IsFindingIn format) report streams inquiry ending old new → Checked inquiry ending old new
   finding_left inquiry Success h =
-      of_claim report _ _ (λ claim. found inquiry streams claim old new true Success refl) h
+      of_claim report _ _ (λ claim. found format inquiry streams claim old new true Success refl) h
   finding_left inquiry Negative h =
-      of_claim report _ _ (λ claim. found inquiry streams claim old new false Negative refl) h
+      of_claim report _ _ (λ claim. found format inquiry streams claim old new false Negative refl) h
   finding_left inquiry Alarm h = absurd h
   finding_left inquiry NoPredicate h = absurd h
   finding_left inquiry Misuse h = absurd h
   finding_left inquiry (Failed MemoryFailure) h = absurd h
   finding_left inquiry (Failed ReadFailure) h = absurd h
   finding_left inquiry (Failed WriteFailure) h =
-      of_claim report _ _ (λ claim. found_up_to inquiry streams claim old new) h
+      of_claim report _ _ (λ claim. found_up_to format inquiry streams claim old new) h
   finding_left inquiry (Failed BundleFailure) h = absurd h
   finding_left inquiry (Failed NetworkFailure) h = absurd h
 
@@ -351,10 +353,12 @@ module _ (options : Options) (document : File) (IsUnread : Type 0) (report : Sou
   With ending = OfDocument options document (λ inquiry. HasNamed [] inquiry × Checked inquiry ending old new)
 
   with_none : (ending : Ending)
-      → OfDocument options document (λ inquiry. OfFinding report streams inquiry ending old new) → With ending
+      → OfDocument options document (λ inquiry. OfFinding (IsFindingIn format) report streams inquiry ending old new)
+      → With ending
   with_none ending = of_document options document _ _ (λ inquiry h. ((λ read is. refl), finding_left inquiry ending h))
 
-  pub claim_left : (ending : Ending) → LeavesOf options document IsUnread (OfFinding report streams) ending old new
+  pub claim_left : (ending : Ending)
+      → LeavesOf options document IsUnread (OfFinding (IsFindingIn format) report streams) ending old new
       → OutOfMemory ending old new ⊎ OfSession options document IsUnread [] Checked ending old new
   claim_left Success h = inr (with_none Success h)
   claim_left Negative h = inr (with_none Negative h)
@@ -417,9 +421,10 @@ some_not_judged true not_judged h = cc
 some_not_judged false true h = refl
 some_not_judged false false h = cc
 
-module _ (files : List ℕ → File) (options : Options) (wishes : List Condition) (folders : List (List ℕ)) where
+module _ (files : List ℕ → File) (options : Options) (wishes : List Condition) (format : Format)
+    (folders : List (List ℕ)) where
   test_follows : (P Q : List Run → Type 0) (text : List ℕ) → ((runs : List Run) → P runs → Q runs)
-      → IsTestText files options wishes P folders text → IsTestText files options wishes Q folders text
+      → IsTestText files options wishes format P folders text → IsTestText files options wishes format Q folders text
   test_follows P Q text go h = record {
     runs = h.runs;
     are_runs = h.are_runs;
@@ -429,13 +434,13 @@ module _ (files : List ℕ → File) (options : Options) (wishes : List Conditio
 
   part_of_test : (failure : Failure) (old new : Option (List ℕ))
       → (failure ≡ WriteFailure) ⊎ (failure ≡ MemoryFailure)
-      → (count : ℕ) × WritesUpTo (IsTestText files options wishes (λ _. ⊤) (take count folders)) old new
-      → LeavesText (IsTestAt files options wishes folders (Failed failure)) (Failed failure) old new
+      → (count : ℕ) × WritesUpTo (IsTestText files options wishes format (λ _. ⊤) (take count folders)) old new
+      → LeavesText (IsTestAt files options wishes format folders (Failed failure)) (Failed failure) old new
   part_of_test failure old new why (count, h) = up_to_weaker _ _ old new (λ text is. (why, count, is)) h
 
   pub test_left : (old new : Option (List ℕ)) (ending : Ending)
-      → TestLeaves files options wishes folders ending old new
-      → LeavesText (IsTestAt files options wishes folders ending) ending old new
+      → TestLeaves files options wishes format folders ending old new
+      → LeavesText (IsTestAt files options wishes format folders ending) ending old new
   test_left old new Success h = writes_weaker _ _ Whole old new (λ text. test_follows _ _ text (λ runs.
       all_pass (nat_lt 0 (count_of Fail (map (verdict_of_run wishes) runs)))
       (nat_lt 0 (count_of NotJudged (map (verdict_of_run wishes) runs))))) h
@@ -508,19 +513,20 @@ module _ (input : Source) (files : List ℕ → File) (connections : Place → S
   ran JudgeInput = by_rule _ _ status old new errors_old errors_new (input_left input old new)
   ran (JudgeFiles options fail_on format document streams) = by_rule _ _ status old new errors_old errors_new
       (files_left files options fail_on format document streams old new)
-  ran (CheckFiles options document report streams) = by_rule _ _ status old new errors_old errors_new
-      (claim_left options (files document) _ (files report).source (sources_of (map files streams)) old new)
+  ran (CheckFiles options format document report streams) = by_rule _ _ status old new errors_old errors_new
+      (claim_left format options (files document) _ (files report).source (sources_of (map files streams)) old new)
   ran (DrawFiles options scope document others) = λ h. inr h
-  ran (ServeStreams options fail_on document place port_file watchers wait keep) =
+  ran (ServeStreams options fail_on format document place port_file watchers wait keep) =
       by_rule _ _ status old new errors_old errors_new
       (session_left options (files document) (MayBeUnread (files document ∷ []) (files document ∷ [])) fail_on
-      (OfConnections (connections place) (ServiceMayFail wait network_serves) (WritesFiles keep port_file) fail_on)
-      (Served (connections place) network_serves wait port_file keep fail_on old new) old new
-      (connections_left (connections place) network_serves wait port_file keep fail_on old new))
+      (OfConnections (IsFormatted format) (connections place) (ServiceMayFail wait network_serves)
+      (WritesFiles keep port_file) fail_on)
+      (Served format (connections place) network_serves wait port_file keep fail_on old new) old new
+      (connections_left format (connections place) network_serves wait port_file keep fail_on old new))
   ran (ExploreFiles options fail_on page document streams) = by_rule _ _ status old new errors_old errors_new
       (page_left files options fail_on page document streams old new)
-  ran (TestRuns options wishes runs) = by_rule _ _ status old new errors_old errors_new
-      (λ ending h. inr (test_left files options wishes runs old new ending h))
+  ran (TestRuns options wishes format runs) = by_rule _ _ status old new errors_old errors_new
+      (λ ending h. inr (test_left files options wishes format runs old new ending h))
   ran (InferDocument streams) = λ h. inr h
   ran (JudgeLines options fail_on) = by_rule _ _ status old new errors_old errors_new (λ ending h. inr h)
   ran (BundleRuns runs) = by_rule _ _ status old new errors_old errors_new (λ ending h. inr h)

@@ -6,3 +6,4 @@ pub mod TimeLimits
 pub mod Runs
 pub mod RunCases
 pub mod RunPages
+pub mod ResultFiles

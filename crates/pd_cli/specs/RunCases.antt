@@ -8,7 +8,7 @@ use Rattle.app_arguments.specs.Arguments.{AsksFor}
 use Rattle.app_arguments.specs.Statuses.{CheckFiles, DrawFiles, Ending, Ends, ExploreFiles, Failed, File, HelpLeaves, BundleRuns, InferDocument, JudgeFiles, JudgeInput, JudgeLines, JudgementLeaves, LeavesOf, MayBeUnread, MemoryFailure, MergeLines, MisuseLeaves, OfConnections, OfFinding, OfNamed, Request, ServeStreams, ServiceMayFail, SessionLeaves, ShowHelp, ShowVersion, TestRuns, Unclear, UnreadClaim, VersionLeaves, sources_of}
 use Rattle.pd_cli.specs.ShownDrawings.{EndsShown}
 use Rattle.pd_cli.specs.Explorations.{ExplorationLeaves}
-use Rattle.app_host.specs.Formats.{OfFormat}
+use Rattle.app_host.specs.Formats.{IsFindingIn, IsFormatted, OfFormat}
 use Rattle.app_arguments.specs.Places.{Place}
 use Rattle.app_serve.specs.Kept.{WritesFiles}
 use Rattle.app_infer.specs.Inferences.{EndsInferred}
@@ -29,20 +29,20 @@ abbrev pub Leaves : (input : Source) (files : List ℕ → File) (connections : 
 Leaves input files connections network_serves JudgeInput = By (JudgementLeaves input)
 Leaves input files connections network_serves (JudgeFiles options fail_on format document streams) =
     By (SessionLeaves files options document streams (λ sources. OfNamed fail_on (OfFormat format sources fail_on)))
-Leaves input files connections network_serves (CheckFiles options document report streams) =
+Leaves input files connections network_serves (CheckFiles options format document report streams) =
     By (LeavesOf options (files document) (UnreadClaim files document report streams)
-    (OfFinding (files report).source (sources_of (map files streams))))
+    (OfFinding (IsFindingIn format) (files report).source (sources_of (map files streams))))
 Leaves input files connections network_serves (DrawFiles options scope document others) =
     EndsShown files options document others scope
 Leaves input files connections network_serves
-    (ServeStreams options fail_on document place port_file watchers wait keep) =
+    (ServeStreams options fail_on format document place port_file watchers wait keep) =
     By (LeavesOf options (files document) (MayBeUnread (files document ∷ []) (files document ∷ []))
-    (OfNamed fail_on (OfConnections (connections place) (ServiceMayFail wait network_serves)
+    (OfNamed fail_on (OfConnections (IsFormatted format) (connections place) (ServiceMayFail wait network_serves)
     (WritesFiles keep port_file) fail_on)))
 Leaves input files connections network_serves (ExploreFiles options fail_on page document streams) =
     By (ExplorationLeaves files options fail_on page document streams)
-Leaves input files connections network_serves (TestRuns options wishes runs) =
-    By (TestLeaves files options wishes runs)
+Leaves input files connections network_serves (TestRuns options wishes format runs) =
+    By (TestLeaves files options wishes format runs)
 Leaves input files connections network_serves (InferDocument streams) = EndsInferred files streams
 Leaves input files connections network_serves (JudgeLines options fail_on) = By (BatchLeaves input options fail_on)
 Leaves input files connections network_serves (BundleRuns runs) = By (BundleLeaves files runs)

@@ -18,7 +18,8 @@ is_named (Some name) = true
 abbrev pub named_wishes : List Condition → List Condition
 named_wishes wishes = filter (λ (wish : Condition). is_named wish.name) wishes
 
--- what is asked of the page of a run of which this is wished: what is wished of each predicate the page doesn't show
+-- What is asked of the page of a run of which this is wished: the wishes that name a predicate. A wish for each
+-- predicate isn't shown on a page.
 abbrev pub page_of_wishes : List Condition → PageOptions
 page_of_wishes wishes = record { wishes = named_wishes wishes; notes = []; link = None }
 

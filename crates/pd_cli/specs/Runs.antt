@@ -6,14 +6,15 @@ use Rattle.def_format.specs.Documents.{Document, Inquiry, IsDocument, Options}
 use Rattle.def_format.specs.Limits.{report_byte_limit}
 use Rattle.def_format.specs.Reports.{Report, Judged, Refused}
 use Rattle.def_judgement.specs.Findings.{names_asked}
-use Rattle.def_judgement.specs.Writes.{IsBrokenOff, IsFindingTextOf, IsTextOfBundle, IsTooLong, Source, Whole, Writes}
+use Rattle.def_judgement.specs.Writes.{IsBrokenOff, IsTextOfBundle, IsTooLong, Source, Whole, Writes}
 use Rattle.app_arguments.specs.Conditions.{is_asked_for}
+use Rattle.app_arguments.specs.Formats.{Format}
 use Rattle.app_arguments.specs.Places.{Place}
 use Rattle.app_arguments.specs.Statuses.{Alarm, BundleFailure, BundleRuns, CheckFiles, DrawFiles, Ending, ExploreFiles, Failed, File, InferDocument, IsTextOfAccepted, JudgeFiles, JudgeInput, JudgeLines, MayBeUnread, MemoryFailure, MergeLines, Misuse, Negative, NetworkFailure, NoPredicate, OfClaim, OfDocument, ReadFailure, Request, ServeStreams, ShowHelp, ShowVersion, Success, TestRuns, Unclear, WriteFailure, WritesUpTo, line_of_failure, sources_of, status_of_failure}
 use Rattle.judge_runs.specs.Runs.{Fail, NotJudged, Run, count_of, verdict_of_run}
 use Rattle.judge_runs.specs.Wishes.{Condition, lacks_name}
 use Rattle.app_host.specs.FileSources.{bytes_in}
-use Rattle.app_host.specs.Formats.{IsFormatted}
+use Rattle.app_host.specs.Formats.{IsFindingIn, IsFormatted}
 use Rattle.app_infer.specs.Inferences.{EndsInferred}
 use Rattle.app_test.specs.Tests.{IsTestText}
 use Rattle.app_batch.specs.Batches.{BatchLeaves}
@@ -72,13 +73,13 @@ LeavesReport IsText fail_on ending =
     LeavesText (IsText (λ report. EndsBy (due_of_report fail_on report) ending)) ending
 
 -- the text of a test of the runs in these folders, by which the run ends, and if it fails that of the first of them
-abbrev pub IsTestAt : (files : List ℕ → File) (options : Options) (wishes : List Condition) (folders : List (List ℕ))
-    → Ending → (text : List ℕ) → Type 0
-IsTestAt files options wishes folders (Failed failure) text =
+abbrev pub IsTestAt : (files : List ℕ → File) (options : Options) (wishes : List Condition) (format : Format)
+    (folders : List (List ℕ)) → Ending → (text : List ℕ) → Type 0
+IsTestAt files options wishes format folders (Failed failure) text =
     ((failure ≡ WriteFailure) ⊎ (failure ≡ MemoryFailure))
-    × (count : ℕ) × IsTestText files options wishes (λ _. ⊤) (take count folders) text
-IsTestAt files options wishes folders ending text =
-    IsTestText files options wishes (λ runs. ending ≡ due_of_runs wishes runs) folders text
+    × (count : ℕ) × IsTestText files options wishes format (λ _. ⊤) (take count folders) text
+IsTestAt files options wishes format folders ending text =
+    IsTestText files options wishes format (λ runs. ending ≡ due_of_runs wishes runs) folders text
 
 -- ---- what is left of a document
 
@@ -116,17 +117,17 @@ Leaves input files connections network_serves (JudgeFiles options fail_on format
     By (OfSession options (files document) (MayBeUnread (files document ∷ map files streams) (files document ∷ []))
     (names_in fail_on) (λ inquiry.
     LeavesReport (IsFormatted format inquiry (sources_of (map files streams))) fail_on))
-Leaves input files connections network_serves (CheckFiles options document report streams) =
+Leaves input files connections network_serves (CheckFiles options format document report streams) =
     By (OfSession options (files document)
     (MayBeUnread (files document ∷ files report ∷ map files streams) (files document ∷ files report ∷ [])
     ⊎ IfSome (files report).source.bytes (λ bytes. report_byte_limit < length bytes)) []
     (λ inquiry ending old new. OfClaim (files report).source (λ claim. (good : Bool)
     × EndsBy (if good then Success else Negative) ending
-    × LeavesText (IsFindingTextOf inquiry claim (sources_of (map files streams)) (Some good)) ending old new)))
+    × LeavesText (IsFindingIn format inquiry claim (sources_of (map files streams)) (Some good)) ending old new)))
 Leaves input files connections network_serves (DrawFiles options scope document others) =
     EndsShown files options document others scope
 Leaves input files connections network_serves
-    (ServeStreams options fail_on document place port_file watchers wait keep) =
+    (ServeStreams options fail_on format document place port_file watchers wait keep) =
     By (OfSession options (files document) (MayBeUnread (files document ∷ []) (files document ∷ []))
     (names_in fail_on) (λ inquiry ending old new.
     -- Not all places may be bound and connections accepted: the network may fail, or they are waited for no longer than
@@ -134,15 +135,15 @@ Leaves input files connections network_serves
     ((ending ≡ Failed NetworkFailure) × (wait ≡ None → network_serves ≡ true → ⊥)
     ⊎ (ending ≡ Failed WriteFailure) × ((keep ≢ None) ⊎ (port_file ≢ None)))
     × ((document : Document) × IsDocument inquiry document) × Keeps old new
-    ⊎ LeavesReport (IsTextOfAccepted inquiry (connections place)) fail_on ending old new))
+    ⊎ LeavesReport (IsTextOfAccepted (IsFormatted format) inquiry (connections place)) fail_on ending old new))
 Leaves input files connections network_serves (ExploreFiles options fail_on page document streams) =
     By (OfSession options (files document)
     (MayBeUnread (files document ∷ map files streams) (files document ∷ [])
     ⊎ ¬ All IsNotesFile (map files page.notes))
     (names_in fail_on ++ names_in page.wishes) (λ inquiry.
     LeavesReport (IsOwedWith (bytes_in files) page streams inquiry (sources_of (map files streams))) fail_on))
-Leaves input files connections network_serves (TestRuns options wishes runs) =
-    By (λ ending. LeavesText (IsTestAt files options wishes runs ending) ending)
+Leaves input files connections network_serves (TestRuns options wishes format runs) =
+    By (λ ending. LeavesText (IsTestAt files options wishes format runs ending) ending)
 Leaves input files connections network_serves (InferDocument streams) = EndsInferred files streams
 Leaves input files connections network_serves (JudgeLines options fail_on) = By (BatchLeaves input options fail_on)
 Leaves input files connections network_serves (BundleRuns runs) = By (BundleLeaves files runs)

@@ -26,7 +26,9 @@
 //! - `run_page`: the page of a recorded run
 //! - `page_names`: the names of the pages of recorded runs
 //! - `pages`: writes the pages of recorded runs that fail
-//! - `test_files`: tests recorded runs, and writes the pages of those that fail
+//! - `result_files`: writes the results of recorded runs into files
+//! - `unwritten`: which file or folder couldn't be written first, and why
+//! - `test_files`: tests recorded runs, and writes the pages of those that fail and the files of results
 //! - `explaining`: whether the arguments ask for explanations
 //! - `time_limit`: how many seconds a run may take, by the arguments
 //! - `explanation`: writes an explanation to the errors
@@ -44,9 +46,11 @@ mod page_names;
 mod pages;
 mod parser_error;
 mod program;
+mod result_files;
 mod run_page;
 mod test_files;
 mod time_limit;
+mod unwritten;
 mod whole_files;
 mod wished;
 

@@ -6,6 +6,7 @@ ghost use Rattle.std.specs.Prelude.{◌≡◌, ◌++◌, IfErr, IfOk, codes, str
 
 use super::page_names::PageNames;
 use super::run_page::run_page;
+use super::unwritten::Unwritten;
 use app_arguments::Test;
 use app_host::{FileSource, System, World};
 use app_serve::replace_file;
@@ -28,10 +29,8 @@ pub(crate) struct Pages<'a> {
     names: PageNames<'a>,
     /// How many are written.
     count: u64,
-    /// Whether one couldn't be, or the folder not be made.
-    has_failed: bool,
-    /// Which was the first, and why.
-    failure: Option<String>,
+    /// Which couldn't be, or that the folder couldn't be made.
+    unwritten: Unwritten,
 }
 
 impl<'a> Pages<'a> {
@@ -41,19 +40,13 @@ impl<'a> Pages<'a> {
             folder,
             names: PageNames::new(alloc),
             count: 0,
-            has_failed: false,
-            failure: None,
+            unwritten: Unwritten::new(),
         }
-    }
-
-    /// Whether they are wanted.
-    pub(crate) fn are_wanted(&self) -> bool {
-        self.folder.is_some()
     }
 
     /// Whether all are written that are wanted.
     pub(crate) fn are_whole(&self) -> bool {
-        !self.has_failed
+        !self.unwritten.has_failed()
     }
 
     /// What came of them.
@@ -61,27 +54,8 @@ impl<'a> Pages<'a> {
         PagesEnd {
             folder: self.folder,
             count: self.count,
-            are_whole: !self.has_failed,
-            failure: match &self.failure {
-                Some(text) => Some(text.as_str()),
-                None => None,
-            },
-        }
-    }
-
-    /// Notes that the file or the folder of this name couldn't be written, and why, if it is the first.
-    fn note(&mut self, alloc: Global, name: &str, why: &str) {
-        if !self.has_failed {
-            self.failure = format!(in alloc; "{name}: {why}").ok();
-        }
-        self.has_failed = true;
-    }
-
-    /// The same of what the system says.
-    fn note_error(&mut self, alloc: Global, name: &str, error: &io::Error) {
-        match format!(in alloc; "{error}") {
-            Ok(why) => self.note(alloc, name, &why),
-            Err(_) => self.note(alloc, name, ""),
+            are_whole: self.are_whole(),
+            failure: self.unwritten.failure(),
         }
     }
 
@@ -95,7 +69,7 @@ impl<'a> Pages<'a> {
             Ok(()) => true,
             Err(error) if error.kind() == ErrorKind::DirectoryNotEmpty => true,
             Err(error) => {
-                self.note_error(alloc, folder, &error);
+                self.unwritten.note_error(alloc, folder, &error);
                 false
             }
         }
@@ -155,10 +129,10 @@ fn add_page<'a, Y: System, G: Gate + Sync>(
     match run_page(world, run, test, gate) {
         Ok(text) => match save_page(world, run, test, &text, &path, &new) {
             Ok(()) => pages.count = pages.count.saturating_add(1),
-            Err(error) => pages.note_error(world.alloc, &path, &error),
+            Err(error) => pages.unwritten.note_error(world.alloc, &path, &error),
         },
         Err(EngineFault::Memory) => return Err(EngineFault::Memory),
-        Err(_) => pages.note(world.alloc, &path, UNREAD),
+        Err(_) => pages.unwritten.note(world.alloc, &path, UNREAD),
     }
     Ok(())
 }

@@ -11,7 +11,7 @@ ghost use Rattle.out_picture.specs.Scopes.{scope_view};
 ghost use Rattle.app_arguments.specs.ConditionViews.{fail_on_view};
 ghost use Rattle.app_arguments.specs.Statuses.{Ends, JudgeInput, JudgementLeaves, LeavesOf, MayBeUnread, OfConnections, OfFinding, OfNamed, ServiceMayFail, SessionLeaves, UnreadClaim, sources_of};
 ghost use Rattle.app_arguments.specs.Views.{format_view, names_view, page_view, session_view};
-ghost use Rattle.app_host.specs.Formats.{OfFormat};
+ghost use Rattle.app_host.specs.Formats.{IsFindingIn, IsFormatted, OfFormat};
 ghost use Rattle.app_batch.specs.Batches.{BatchLeaves};
 ghost use Rattle.app_bundle.specs.Bundles.{BundleLeaves};
 ghost use Rattle.app_infer.specs.Inferences.{EndsInferred};
@@ -28,12 +28,13 @@ use super::explanation::write_explanation;
 use super::explore_files::explore_files;
 use super::pages::Pages;
 use super::parser_error::report_parser_error;
+use super::result_files::ResultFiles;
 use super::test_files::test_files;
 use app_arguments::{
     Batch, Format, Judgement, PageOptions, Request, Service, SessionNames, Test, parse,
 };
 use app_batch::{Asked, batch_lines, batch_text};
-use app_bundle::{bundle_runs, bundled_text};
+use app_bundle::{bundle_runs, bundle_runs_text};
 use app_ends::{
     bundle_text, check_text, drawing_text, exploration_text, judgement_text, notes_to_draw,
 };
@@ -53,23 +54,25 @@ use std::random::RandomSource;
 use std::sync::Wait;
 use std::thread::Threads;
 
-/// Checks the report in the file of this name against files, and gives the exit status.
+/// Checks the report in the file of this name against files, writes what is found in this format, and gives the exit
+/// status.
 fn run_check<Y: System, O: Write, E: Write>(
     world: &World<'_, Y>,
     report: &str,
     names: &SessionNames<'_>,
+    format: Format,
     output: &mut O,
     errors: &mut E,
 ) -> u8
     ensures { Explained world.now.explain (λ start. Ends (λ ending. LeavesOf (options_view names.now.options)
         (Y.Files.file_of world.now.files.now names.now.spec.now)
         (UnreadClaim (Y.Files.file_of world.now.files.now) names.now.spec.now report.now (session_view names.now).1)
-        (OfFinding (Y.Files.file_of world.now.files.now report.now).source
+        (OfFinding (IsFindingIn (format_view format)) (Y.Files.file_of world.now.files.now report.now).source
         (sources_of (map (Y.Files.file_of world.now.files.now) (session_view names.now).1)))
         ending (O.contents output.old) (O.contents output.new)) result start (E.contents errors.new))
         (E.contents errors.old) }
 {
-    let end = check_files(world, report, names, output);
+    let end = check_files(world, report, names, format, output);
     let text = check_text(world, report, names, &end);
     write_explanation(world.explain, &text, errors);
     report_end(&end, errors)
@@ -106,7 +109,7 @@ fn run_service<Y: System, O: Write, E: Write>(
     ensures { Explained world.now.explain (λ start. Ends (λ ending. LeavesOf (options_view service.now.options)
         (Y.Files.file_of world.now.files.now service.now.spec.now) (MayBeUnread (Y.Files.file_of world.now.files.now
         service.now.spec.now ∷ []) (Y.Files.file_of world.now.files.now service.now.spec.now ∷ []))
-        (OfNamed (fail_on_view service.now.fail_on) (OfConnections
+        (OfNamed (fail_on_view service.now.fail_on) (OfConnections (IsFormatted (format_view service.now.format))
         (Y.Network.may_give world.now.network.now (place_view service.now.place)) (ServiceMayFail service.now.wait
         Y.Network.never_fails) (AsksForFiles service.now) (fail_on_view service.now.fail_on))) ending
         (O.contents output.old) (O.contents output.new)) result start (E.contents errors.new)) (E.contents errors.old) }
@@ -194,13 +197,15 @@ fn run_test<Y: System, O: Write, E: Write>(
     errors: &mut E,
 ) -> u8
     ensures { Explained world.now.explain (λ start. Ends (λ ending. TestLeaves (Y.Files.file_of world.now.files.now)
-        (options_view test.now.options) (wishes_view test.now.wishes.items) (names_view test.now.runs.items) ending
-        (O.contents output.old) (O.contents output.new)) result start (E.contents errors.new)) (E.contents errors.old) }
+        (options_view test.now.options) (wishes_view test.now.wishes.items) (format_view test.now.format)
+        (names_view test.now.runs.items) ending (O.contents output.old) (O.contents output.new)) result start
+        (E.contents errors.new)) (E.contents errors.old) }
 {
     let gate = LevelGate::new(world.files);
     let mut pages = Pages::new(world.alloc, test.pages);
-    let end = test_files(world, test, &gate, &mut pages, output);
-    let text = test_text(world, &end, pages.end());
+    let mut files = ResultFiles::new(test);
+    let end = test_files(world, test, &gate, &mut pages, &mut files, output);
+    let text = test_text(world, &end, pages.end(), files.end());
     write_explanation(world.explain, &text, errors);
     report_test(&end, errors)
 }
@@ -248,7 +253,7 @@ fn run_batch<Y: System, I: ByteSource + Drop, O: Write, E: Write>(
 }
 
 /// Writes recorded runs as sessions in lines, and gives the exit status.
-fn run_bundling<Y: System, O: Write, E: Write>(
+fn run_bundle_runs<Y: System, O: Write, E: Write>(
     world: &World<'_, Y>,
     runs: &[&str],
     output: &mut O,
@@ -259,7 +264,7 @@ fn run_bundling<Y: System, O: Write, E: Write>(
         (O.contents output.new)) result start (E.contents errors.new)) (E.contents errors.old) }
 {
     let end = bundle_runs(world, runs, output);
-    let text = bundled_text(world, &end);
+    let text = bundle_runs_text(world, &end);
     write_explanation(world.explain, &text, errors);
     report_end(&end, errors)
 }
@@ -319,7 +324,9 @@ fn run_arguments<Y: System, I: ByteSource + Drop, O: Write, E: Write>(
         Ok(Request::Judge(judgement, format)) => {
             run_files(world, &judgement, format, output, errors)
         }
-        Ok(Request::Check(report, names)) => { run_check(world, report, &names, output, errors) }
+        Ok(Request::Check(report, names, format)) => {
+            run_check(world, report, &names, format, output, errors)
+        }
         Ok(Request::Draw(scope, names)) => run_draw(world, &scope, &names, output, errors),
         Ok(Request::Serve(service)) => { run_service(world, &service, output, errors) }
         Ok(Request::Explore(judgement, page)) => {
@@ -328,7 +335,7 @@ fn run_arguments<Y: System, I: ByteSource + Drop, O: Write, E: Write>(
         Ok(Request::Test(test)) => { run_test(world, &test, output, errors) }
         Ok(Request::Infer(streams)) => run_infer(world, &streams, output, errors),
         Ok(Request::Batch(batch)) => run_batch(world, input, &batch, output, errors),
-        Ok(Request::BundleRuns(runs)) => run_bundling(world, &runs, output, errors),
+        Ok(Request::BundleRuns(runs)) => run_bundle_runs(world, &runs, output, errors),
         Ok(Request::Merge) => run_merge(world, input, output, errors),
         Err(error) => report_parser_error(&error, output, errors),
     }

@@ -1,29 +1,37 @@
--- A flush leaves the whole text of the finding.
-use Rattle.std.proofs.Common.{map, Some, None}
-use Rattle.def_judgement.specs.Writes.{IsFindingTextOf}
+-- What is written is the text of the finding, up to the write that fails.
+use Rattle.std.proofs.Common.{◌↔◌, ◌∙◌, Bool, Err, IsTrue, map, subst, sym}
+use Rattle.app_arguments.specs.Statuses.{OfFinding}
+use Rattle.app_arguments.specs.Views.{format_view}
+use Rattle.def_judgement.specs.Findings.{IsClean}
+use Rattle.def_judgement.specs.Writes.{whole_source}
+use Rattle.judge_check.specs.Views.{finding_view}
 use Rattle.judge_session.specs.Inquiries.{inquiry_view}
-use Rattle.app_host.proofs.FilesRead.{whole_is_whole}
-use Rattle.app_host.proofs.FlushedTexts.{check_ends, flushed_up_to, unsaid_of_finding}
+use Rattle.judge_session.specs.declared.fault.EngineFault.{EngineFault}
+use Rattle.app_host.specs.Faults.{ending_view}
+use Rattle.app_host.specs.FileSources.{ReadLeaves}
+use Rattle.app_host.specs.Formats.{IsFindingIn}
+use Rattle.app_host.proofs.FlushedTexts.{check_ends, check_fails}
 use Rattle.app_host.proofs.checks.check_read.Goals as goal
 
-pub returns-then-is_err : goal.returns-then-is_err
-returns-then-is_err g c =
-    let document = inquiry_view c.args.inquiry in
-    let report = c.args.report.now in
-    let inputs = map g.R.ByteSource.left c.args.streams.items in
-    let good = Some c.in_ok-good.good in
-    record {
-      bytes = report;
-      whole = whole_is_whole report;
-      fits = c.requires.short;
-      holds = flushed_up_to (IsFindingTextOf document report inputs good) (IsFindingTextOf document report inputs None)
-          (g.O.Write.contents c.args.output.now) (g.O.Write.contents c.check_inquiry.new.writer)
-          (g.O.Write.contents c.flush.new.self) (unsaid_of_finding document report inputs good)
-          c.in_ok-good.ensures.written c.flush.ensures.bytes;
-    }
+pub returns-in-Ok : goal.returns-in-Ok
+returns-in-Ok g c =
+    let finding = finding_view c.in_ok-finding.finding in
+    check_ends (format_view c.args.format) (inquiry_view c.args.inquiry) c.args.report.now
+    (map g.R.ByteSource.left c.args.streams.items) c.is_clean.result finding c.deref.result.now
+    (g.O.Write.contents c.args.output.now) (g.O.Write.contents c.write_flushed.new.output) c.requires.short
+    c.in_ok-finding.ensures.found
+    (subst (λ (good : Bool). IsTrue good ↔ IsClean finding) (sym c.is_clean.ensures) (c.clean_is_clean.ensures finding))
+    (c.deref.ensures.value ∙ c.in_ok-text.ensures) c.in-Ok.ensures.written
 
 pub returns : goal.returns
 returns g c =
-    check_ends (inquiry_view c.args.inquiry) c.args.report.now (map g.R.ByteSource.left c.args.streams.items)
-    c.in_ok-good.good (g.O.Write.contents c.args.output.now) (g.O.Write.contents c.check_inquiry.new.writer)
-    (g.O.Write.contents c.flush.new.self) c.requires.short c.in_ok-good.ensures.written c.flush.ensures.bytes
+    let part = c.in-Err.ensures.part in
+    let document = inquiry_view c.args.inquiry in
+    let inputs = map g.R.ByteSource.left c.args.streams.items in
+    let old = g.O.Write.contents c.args.output.now in
+    let new = g.O.Write.contents c.write_flushed.new.output in
+    subst (λ (fault : EngineFault). ReadLeaves (OfFinding (IsFindingIn (format_view c.args.format))
+    (whole_source c.args.report.now) inputs document) (ending_view (Err fault)) old new) (sym c.in-Err.ensures.err)
+    (check_fails (format_view c.args.format) document c.args.report.now inputs (finding_view c.in_ok-finding.finding)
+    c.deref.result.now old new part.0 c.requires.short c.in_ok-finding.ensures.found
+    (c.deref.ensures.value ∙ c.in_ok-text.ensures) part.2)

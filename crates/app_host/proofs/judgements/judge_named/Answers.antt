@@ -12,6 +12,6 @@ pub returns-in-Err : goal.returns-in-Err
 returns-in-Err g c =
     let fail_on = fail_on_view c.args.judgement.now.fail_on in
     with_named fail_on (OfFormat (format_view c.args.format) (map g.R.ByteSource.left c.args.streams.items) fail_on)
-    (inquiry_view c.args.inquiry) (g.O.Write.contents c.args.output.now) (g.O.Write.contents c.judge_as.new.output)
+    (inquiry_view c.args.inquiry) (g.O.Write.contents c.args.output.now) (g.O.Write.contents c.judge_read.new.output)
     (c.in_ok-has_named.ensures.yes c.if-not-branch.false) (λ never. never)
     (judgement_ending fail_on (Err c.in-Err.fault)) (c.in-Err.ensures.written fail_on)

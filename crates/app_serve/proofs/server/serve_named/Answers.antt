@@ -4,7 +4,7 @@ use Rattle.app_arguments.specs.ConditionViews.{fail_on_view}
 use Rattle.app_arguments.specs.Conditions.{unknown_name}
 use Rattle.judge_runs.specs.Wishes.{names_of}
 use Rattle.app_arguments.specs.Statuses.{ServiceMayFail}
-use Rattle.app_arguments.specs.Views.{place_view}
+use Rattle.app_arguments.specs.Views.{format_view, place_view}
 use Rattle.def_format.specs.Documents.{NamedPredicate}
 use Rattle.judge_session.specs.Inquiries.{inquiry_view}
 use Rattle.pd_spec.specs.Views.{document_view}
@@ -23,7 +23,7 @@ returns-then-is_none g c =
     (subst (λ (predicates : List NamedPredicate). unknown_name (names_of predicates) fail_on ≡ None)
     c.predicates.ensures (none_found c.unknown_name.result _ c.unknown_name.ensures
     (c.is_none.ensures ∙ ap not c.if-is_none.true))) in
-    named_service inquiry (g.N.Network.may_give c.args.host.now.network.now
+    named_service (format_view service.format) inquiry (g.N.Network.may_give c.args.host.now.network.now
     (place_view service.place))
     (ServiceMayFail service.wait g.N.Network.never_fails) (AsksForFiles service) fail_on
     c.serve_kept.result c.named_end.result (g.O.Write.contents c.args.output.now)

@@ -1,10 +1,11 @@
 -- The lines of the first runs are written.
-use Rattle.app_arguments.specs.Views.{names_view}
+use Rattle.app_arguments.specs.Views.{format_view, names_view}
 use Rattle.judge_runs.specs.Views.{wishes_view}
 use Rattle.app_test.proofs.RunLines.{AreWritten}
 use Rattle.app_test.proofs.tests.put_runs.Given as goal
 
 abbrev pub invariant-loop-place : goal.invariant-loop-place
 invariant-loop-place g l =
-    AreWritten (wishes_view l.wishes) l.is_wanted (names_view l.folders) l.found l.place l.fn.tally l.tally
-    (names_view l.failing.items) (g.O.Write.contents l.fn.output) (g.O.Write.contents l.output)
+    AreWritten (format_view l.asked.format) (wishes_view l.asked.wishes.now) l.asked.has_pages
+    (names_view l.folders) l.found l.place l.fn.records l.records (names_view l.failing.items)
+    (g.O.Write.contents l.fn.output) (g.O.Write.contents l.output)

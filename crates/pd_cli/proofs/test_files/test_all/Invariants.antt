@@ -1,6 +1,7 @@
 -- The first runs are tested.
 use Rattle.std.proofs.Common.{◌-◌, ◌≤◌, drop, length}
-use Rattle.app_arguments.specs.Views.{names_view}
+use Rattle.app_arguments.specs.Views.{format_view, names_view}
+use Rattle.app_test.specs.TestedRuns.{wanted_by}
 use Rattle.judge_runs.specs.Views.{wishes_view}
 use Rattle.pd_spec.specs.Views.{options_view}
 use Rattle.pd_cli.proofs.TestsSoFar.{IsTestedTo}
@@ -9,9 +10,9 @@ use Rattle.pd_cli.proofs.test_files.test_all.Given as goal
 abbrev pub invariant-loop-from : goal.invariant-loop-from
 invariant-loop-from g l = record {
   tested : IsTestedTo (g.Y.Files.FileSource.file_of l.world.files.now) (options_view l.test.options)
-      (wishes_view l.test.wishes.items) (names_view l.test.runs.items)
-      (drop l.from (names_view l.test.runs.items)) l.tally (g.O.Write.contents l.fn.output)
-      (g.O.Write.contents l.output);
+      (wishes_view l.test.wishes.items) (format_view l.test.format) (wanted_by l.test)
+      (names_view l.test.runs.items) (drop l.from (names_view l.test.runs.items)) l.records
+      (g.O.Write.contents l.fn.output) (g.O.Write.contents l.output);
   within : l.from ≤ length l.test.runs.items;
 }
 

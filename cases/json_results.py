@@ -1,0 +1,140 @@
+#!/usr/bin/env python3
+"""json_results.py [PROGRAM] [--schema]: tests the recorded runs among the examples, and some that can't be judged, by
+`test` with several wishes, and compares what `--format json`, `--json` and `--junit` give with the lines: the fields of
+the object have to make the lines and the numbers again, the file of JSON has to be that object, and a parser of XML has
+to find the same runs, numbers and messages in the file of JUnit.
+
+With --schema it is looked instead whether docs/test.schema.json takes each object, and refuses faults that are put in.
+That needs the module jsonschema, Debian's python3-jsonschema, which is there for Debian's /usr/bin/python3.
+
+PROGRAM is ../crates/monitor/out/monitor if it isn't given. The last line says how many objects were looked at; the
+status is 1 if any is wrong."""
+import argparse
+import glob
+import json
+import os
+import subprocess
+import sys
+import tempfile
+import xml.etree.ElementTree as tree
+
+sys.dont_write_bytecode = True
+from run import HERE  # noqa: E402
+
+TOP = os.path.join(HERE, "..")
+WISHES = ([], ["--always", "both"], ["--ask", "true", "--width", "1"], ["--never", "nobody"])
+
+
+def runs():
+    """The folders of recorded runs, and of some that have no session, or one that is refused."""
+    yield from sorted(os.path.dirname(path) for path in glob.glob(os.path.join(TOP, "examples", "*", "session.json")))
+    yield os.path.join(TOP, "examples")
+    yield "refused"
+    yield "mark-up <&\"'>"
+
+
+def line_of(run):
+    """The line of a run, by the fields of its object."""
+    if "broken" in run:
+        words = "fail: " + ", ".join(f"{it['predicate']} {it['question']} {it['answer']}" for it in run["broken"])
+    elif "report" in run:
+        words = run["report"]["report"].rstrip("\n")
+    elif "file" in run:
+        words = f"unread {run['file']}"
+    elif "unnamed" in run:
+        words = f"unnamed {run['unnamed']}"
+    else:
+        words = run["outcome"]
+    return f"{run['name']}: {words}"
+
+
+def text_of(found):
+    """The text of a test, by the fields of its object."""
+    lines, counts = [line_of(run) for run in found["runs"]], found["counts"]
+    failing = [line for line, run in zip(lines, found["runs"]) if run["outcome"] != "pass"]
+    lines.append(f"runs: {counts['all']}, pass: {counts['pass']}, fail: {counts['fail']}, "
+                 f"not judged: {counts['not_judged']}")
+    return "\n".join(lines + ["  " + line for line in failing[:5]]) + "\n"
+
+
+def tested(program, folder, wishes):
+    """What a test writes as text, and as JSON, with its two files."""
+    words = [program, "test", *runs(), *wishes]
+    text = subprocess.run([*words, "--json", "results.json", "--junit", "results.xml"], cwd=folder, capture_output=True,
+                          check=False)
+    as_json = subprocess.run([*words, "--format", "json"], cwd=folder, capture_output=True, check=False)
+    return text, as_json
+
+
+def compare(folder, text, as_json):
+    """What differs between the lines, the object and the two files."""
+    found = json.loads(as_json.stdout)
+    form = json.dumps(found, sort_keys=True, separators=(",", ":"), ensure_ascii=False) + "\n"
+    with open(os.path.join(folder, "results.json"), "rb") as file:
+        pairs = {"the file of JSON": (as_json.stdout, file.read())}
+    pairs["the form of the object"] = (form.encode(), as_json.stdout)
+    pairs["the lines by the object"] = (text.stdout, text_of(found).encode())
+    pairs["the status and the errors"] = ((text.returncode, text.stderr), (as_json.returncode, as_json.stderr))
+    pairs["the outcome"] = ({0: "pass", 5: "fail", 1: "not judged"}[as_json.returncode], found["outcome"])
+    suite, counts = tree.parse(os.path.join(folder, "results.xml")).getroot(), found["counts"]
+    pairs["the numbers in XML"] = ([suite.get(it) for it in ("tests", "failures", "errors")],
+                                   [str(counts[it]) for it in ("all", "fail", "not_judged")])
+    pairs["the runs in XML"] = ([line_of(run) for run in found["runs"]], [
+        f"{case.get('name')}: {case[0].get('message') if len(case) else 'pass'}" for case in suite])
+    return [f"{what}: {str(one)[:300]} and {str(other)[:300]}" for what, (one, other) in pairs.items() if one != other]
+
+
+def faults_in(found):
+    """The object with one fault each that no test has."""
+    for name in found:
+        yield {key: value for key, value in found.items() if key != name}
+    yield {**found, "more": 1}
+    yield {**found, "outcome": "unknown"}
+    yield {**found, "counts": {**found["counts"], "all": -1}}
+    for place, run in enumerate(found["runs"]):
+        for fault in ({**run, "more": 1}, {**run, "outcome": "unknown"}, {"outcome": run["outcome"]}):
+            yield {**found, "runs": [*found["runs"][:place], fault, *found["runs"][place + 1:]]}
+
+
+def by_schema():
+    """Looks at an object by the schema, and at its faults."""
+    import jsonschema
+    schemas = {}
+    for name in ("test", "report"):
+        with open(os.path.join(TOP, "docs", f"{name}.schema.json"), encoding="utf-8") as file:
+            schemas[f"{name}.schema.json"] = json.load(file)
+    schema = schemas["test.schema.json"]
+    jsonschema.Draft202012Validator.check_schema(schema)
+    resolver = jsonschema.RefResolver("test.schema.json", schema, store=schemas)
+    validator = jsonschema.Draft202012Validator(schema, resolver=resolver)
+
+    def look_by(_folder, _text, as_json):
+        found = json.loads(as_json.stdout)
+        wrong = [f"the schema refuses it: {error.message[:300]}" for error in validator.iter_errors(found)]
+        return wrong + [f"the schema takes this too: {json.dumps(fault)[:300]}" for fault in faults_in(found)
+                        if validator.is_valid(fault)]
+    return look_by
+
+
+def main():
+    parser = argparse.ArgumentParser(description=__doc__, formatter_class=argparse.RawDescriptionHelpFormatter)
+    parser.add_argument("program", nargs="?", default=os.path.join(TOP, "crates", "monitor", "out", "monitor"))
+    parser.add_argument("--schema", action="store_true")
+    given = parser.parse_args()
+    program = os.path.abspath(given.program)
+    if not os.access(program, os.X_OK):
+        sys.exit(f"results as JSON: no program {program}")
+    look_by, wrong = by_schema() if given.schema else compare, []
+    with tempfile.TemporaryDirectory() as folder:
+        for name, document in (("refused", "{}"), ("mark-up <&\"'>", "")):
+            os.makedirs(os.path.join(folder, name))
+            with open(os.path.join(folder, name, "session.json"), "w", encoding="utf-8") as file:
+                file.write(document)
+        for wishes in WISHES:
+            wrong += [f"test {' '.join(wishes)}: {it}" for it in look_by(folder, *tested(program, folder, wishes))]
+    print("\n".join(wrong + [f"results as JSON: {len(WISHES)} looked at, {len(wrong)} wrong"]))
+    return 1 if wrong else 0
+
+
+if __name__ == "__main__":
+    sys.exit(main())

@@ -1,0 +1,55 @@
+//! What is kept of the runs so far.
+ghost use Rattle.app_arguments.specs.Views.{format_view};
+ghost use Rattle.app_test.specs.TestedRuns.{wanted_by};
+ghost use Rattle.app_test.specs.Tests.{is_json};
+ghost use Rattle.std.specs.Prelude.{◌≡◌};
+
+use app_arguments::{Format, Test};
+use judge_results::{Results, Wanted};
+use judge_runs::Tally;
+use std::alloc::Global;
+
+/// Whether one JSON object is written.
+fn is_json(format: Format) -> bool
+    ensures { result ≡ is_json (format_view format) }
+{
+    match format {
+        Format::Json => true,
+        Format::Plain => false,
+    }
+}
+
+/// Which texts of the results a test has to have: the JSON text for its file or the output, the XML for its file.
+fn wanted_by(test: &Test<'_>) -> Wanted
+    ensures { result ≡ wanted_by test.now }
+{
+    Wanted {
+        json: test.json.is_some() || is_json(test.format),
+        junit: test.junit.is_some(),
+    }
+}
+
+/// What is kept of the runs so far: their verdicts, and the results that are wanted.
+#[derive(Drop)]
+pub struct Records {
+    /// Their verdicts, and the first lines of those that don't pass.
+    pub tally: Tally,
+    /// Their results.
+    pub results: Results,
+}
+
+impl Records {
+    ghost use Rattle.app_test.specs.TestedRuns.{AreRecords, wanted_by};
+    ghost use Rattle.judge_runs.specs.Wishes.{Condition};
+    ghost use Rattle.std.specs.Prelude.{[], List};
+
+    /// Of no run, for this test.
+    pub fn new(alloc: Global, test: &Test<'_>) -> Records
+        ensures { (wishes : List Condition) → AreRecords (wanted_by test.now) wishes [] result }
+    {
+        Records {
+            tally: Tally::new(alloc),
+            results: Results::new(alloc, wanted_by(test)),
+        }
+    }
+}
