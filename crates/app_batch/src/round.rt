@@ -11,7 +11,6 @@ ghost use Rattle.judge_session.specs.declared.fault.EngineFault.TheVariants as f
 ghost use Rattle.pd_spec.specs.Views.{options_view};
 ghost use Rattle.read_lines.specs.GivenLines.{BreaksOff, HasLines, IsLine};
 ghost use Rattle.read_sessions.specs.SessionLines.{session_line};
-ghost use Rattle.std.specs.Thread.{IsSync};
 ghost use Rattle.std.specs.List.{AllZip};
 ghost use Rattle.std.specs.Prelude.{◌≡◌, ◌+◌, ◌<◌, ◌≤◌, ◌^◌, ◌++◌, ◌⊎◌, Err, IfErr, IfOk, IsOkUnless, List, Some, length, slice_get, ℕ};
 
@@ -27,10 +26,11 @@ use read_lines::{Line, Lines};
 use std::alloc::{AllocError, Global};
 use std::random::RandomSource;
 use std::sync::Wait;
-use std::thread::{Threads, for_each_mut};
+use std::thread::Threads;
+use walk_keys::values_of;
 
 /// How many lines each job has in a round at most.
-const LINES_PER_JOB: usize = 64;
+const LINES_PER_JOB: usize = 1_024;
 
 /// How many bytes of lines each job has in a round, from which on no line is added but the first of each job.
 const BYTES_PER_JOB: usize = 1_048_576;
@@ -122,43 +122,8 @@ fn answer_at<S: RandomSource + Threads + Wait + Sync>(
     line_answer(rt, alloc, first + place as u64, &round[place], asked)
 }
 
-/// Puts in each place of the results what is written of the line at that place of the round, by so many threads.
-fn fill<S: RandomSource + Threads + Wait + Sync>(
-    rt: &S,
-    alloc: &Global,
-    first: u64,
-    round: &[Line],
-    asked: &Asked<'_>,
-    jobs: usize,
-    results: &mut [Result<Answer, EngineFault>],
-)
-    requires jobs { 1 ≤ jobs }
-    requires one_each { length results.old ≡ length round.now }
-    requires fits { first + length round.now < 2 ^ 64 }
-    requires some_workers { 1 ≤ asked.now.workers }
-    requires few_workers { asked.now.workers ≤ worker_limit }
-    ensures { AreResults (options_view asked.now.options.now) (fail_on_view asked.now.fail_on.now) first round.now
-        results.new }
-{
-    for_each_mut(
-        rt,
-        results,
-        jobs,
-        &move |place: usize, one: &mut Result<Answer, EngineFault>|
-            requires { IsSync S.row × (place < length round.now) × (first + length round.now < 2 ^ 64)
-                × (1 ≤ asked.now.workers) × (asked.now.workers ≤ worker_limit) }
-            ensures { IfOk one.new (λ answer. (line : Line) → slice_get round.entry.now place ≡ Some line
-                → (bytes : List ℕ) → IsLine line bytes → IsAnswer (options_view asked.entry.now.options.now)
-                (fail_on_view asked.entry.now.fail_on.now) (first + place) (session_line bytes)
-                (answer_view answer)) }
-        {
-            *one = answer_at(rt, *alloc, first, round, place, asked);
-        },
-    );
-}
-
-/// What is written of each line of a round, of which the first has this number, or why that isn't made; by so many
-/// threads.
+/// What is written of each line of a round, of which the first has this number, or why that isn't made; by at most this
+/// many threads, which draw the lines.
 ///
 /// # Errors
 /// An allocation was refused.
@@ -177,19 +142,20 @@ pub(crate) fn answer_round<S: RandomSource + Threads + Wait + Sync>(
     ensures { IfOk result (λ results. AreResults (options_view asked.now.options.now)
         (fail_on_view asked.now.fail_on.now) first round.now results.items) }
 {
-    let mut results = Vec::with_capacity(alloc, round.len())?;
-    for _place in 0..round.len() {
-        results.push(Err(EngineFault::Memory))?;
-    }
-    fill(
+    let results = values_of(
         rt,
-        &alloc,
-        first,
-        round,
-        asked,
         jobs,
-        results.as_mut_slice(),
-    );
+        alloc,
+        round.len(),
+        &|place: usize| -> Result<Answer, EngineFault>
+            requires { (place < length round.now) × (first + length round.now < 2 ^ 64)
+                × (1 ≤ asked.now.workers) × (asked.now.workers ≤ worker_limit) }
+            ensures { IfOk result (λ answer. (line : Line) → slice_get round.entry.now place ≡ Some line
+                → (bytes : List ℕ) → IsLine line bytes → IsAnswer (options_view asked.entry.now.options.now)
+                (fail_on_view asked.entry.now.fail_on.now) (first + place) (session_line bytes)
+                (answer_view answer)) }
+        { answer_at(rt, alloc, first, round, place, asked) },
+    )?;
     Ok(results)
 }
 
