@@ -797,8 +797,14 @@ class Judged:
 
 # The drawing of sessions.
 
+# Of a hundred values two are wide: at the ends of 64 bits, or around those that events and states keep in 32 bits.
+WIDE = [(2 ** 63 - 1, -2 ** 63), (2 ** 31 - 1, -2 ** 30 - 1), (2 ** 31, -2 ** 30)]
+WIDE_PART = 0.02
+
+
 def draw_value(draw):
-    return draw.choice([2 ** 63 - 1, -2 ** 63]) if draw.random() < 0.02 else draw.randint(-2, 2)
+    part = draw.random() / WIDE_PART
+    return draw.choice(WIDE[int(part * len(WIDE))]) if part < 1 else draw.randint(-2, 2)
 
 
 def draw_version(draw):

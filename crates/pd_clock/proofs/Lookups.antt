@@ -13,11 +13,11 @@ use Rattle.read_traces.specs.declared.event.Trace.{Trace}
 use Rattle.pd_clock.specs.Computations.{Keeps, initial_view}
 use Rattle.read_traces.specs.Views.{computation_view}
 use Rattle.std.proofs.lemmas.List.{length-map}
-use Rattle.pd_clock.specs.States.{IsLookedUp, values_at, value_at}
+use Rattle.pd_clock.specs.States.{IsLookedUp, history_at, values_at, value_at}
 use Rattle.pd_clock.proofs.Rows.{history-at, length-rows_after}
 use Rattle.pd_clock.proofs.Parts.{initial_read}
 
-pub value_is_state : (initial : List (Vec ℤ Global)) (traces : List Trace) (histories : List (Vec ℤ Global))
+pub value_is_state : (initial : List (Vec ℤ Global)) (traces : List Trace) (histories : List (List ℤ))
     → Keeps initial traces histories → (counts : List ℕ) (p v : ℕ)
     → get_or counts p 0 ≤ event_count (computation_view traces) p → value_at initial histories counts p v
     ≡ state_at (initial_view initial) (computation_view traces) counts p v
@@ -37,9 +37,9 @@ value_is_state initial traces histories keeps counts p v le =
     go (inr past) = rw (le-ltb v (length (values_at initial p)) past, slice_get_past (values_at initial p) v past) refl
 
 -- there is a row after each event
-pub row_there : (initial : List (Vec ℤ Global)) (traces : List Trace) (histories : List (Vec ℤ Global))
+pub row_there : (initial : List (Vec ℤ Global)) (traces : List Trace) (histories : List (List ℤ))
     → Keeps initial traces histories → (p count : ℕ) → count ≤ event_count (computation_view traces) p
-    → count * length (values_at initial p) + length (values_at initial p) ≤ length (values_at histories p)
+    → count * length (values_at initial p) + length (values_at initial p) ≤ length (history_at histories p)
 row_there initial traces histories keeps p count le =
     let row : length (rows_after (values_at initial p) (events_of (computation_view traces) p))
     ≡ event_count (computation_view traces) p * length (values_at initial p) =
@@ -57,7 +57,7 @@ row_there initial traces histories keeps p count le =
 trace_count : (traces : List Trace) → length (computation_view traces) ≡ length traces
 trace_count traces = length-map traces (λ (process : Trace). process.events)
 
-pub is_looked_up : (initial : List (Vec ℤ Global)) (traces : List Trace) (histories : List (Vec ℤ Global))
+pub is_looked_up : (initial : List (Vec ℤ Global)) (traces : List Trace) (histories : List (List ℤ))
     → Keeps initial traces histories → (counts : List ℕ) → FitsProcesses (computation_view traces) counts
     → IsLookedUp initial histories counts
 is_looked_up initial traces histories keeps counts fits = record {
@@ -67,7 +67,7 @@ is_looked_up initial traces histories keeps counts fits = record {
 }
 
 -- what is asked of one process that is there
-pub count_there : (initial : List (Vec ℤ Global)) (traces : List Trace) (histories : List (Vec ℤ Global))
+pub count_there : (initial : List (Vec ℤ Global)) (traces : List Trace) (histories : List (List ℤ))
     → Keeps initial traces histories → (p count : ℕ) → p < length initial
     → (p < length (computation_view traces) → count ≤ event_count (computation_view traces) p)
     → count ≤ event_count (computation_view traces) p

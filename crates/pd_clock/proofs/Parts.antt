@@ -7,7 +7,7 @@ use Rattle.def_model.specs.Events.{events_of}
 use Rattle.def_model.proofs.ListPrefixes.{get_push_before, get_push_last}
 use Rattle.read_traces.specs.declared.event.Trace.{Trace}
 use Rattle.read_traces.specs.Views.{computation_view}
-use Rattle.pd_clock.specs.States.{values_at, values_in}
+use Rattle.pd_clock.specs.States.{history_at, history_in, values_at, values_in}
 
 pub got : {A : Type 0} (xs : List A) (p : ℕ) (x : A) → p < length xs → x ≡ get_or xs p x → slice_get xs p ≡ Some x
 got xs p x lt is = slice_get_read xs (length xs) p x refl lt is
@@ -26,6 +26,21 @@ values_last rows row k e = ap values_in (get_push_last rows row k e)
 
 pub values_past : (rows : List (Vec ℤ Global)) (k : ℕ) → length rows ≤ k → values_at rows k ≡ []
 values_past rows k le = ap values_in (slice_get_past rows k le)
+
+pub history_read : (rows : List (List ℤ)) (p : ℕ) (row : List ℤ) → p < length rows → row ≡ get_or rows p row
+    → history_at rows p ≡ row
+history_read rows p row lt is = ap history_in (got rows p row lt is)
+
+pub history_before : (rows : List (List ℤ)) (row : List ℤ) (k : ℕ) → k < length rows
+    → history_at (rows ++ row ∷ []) k ≡ history_at rows k
+history_before rows row k lt = ap history_in (get_push_before rows row k lt)
+
+pub history_last : (rows : List (List ℤ)) (row : List ℤ) (k : ℕ) → k ≡ length rows
+    → history_at (rows ++ row ∷ []) k ≡ row
+history_last rows row k e = ap history_in (get_push_last rows row k e)
+
+pub history_past : (rows : List (List ℤ)) (k : ℕ) → length rows ≤ k → history_at rows k ≡ []
+history_past rows k le = ap history_in (slice_get_past rows k le)
 
 get_map : {A B : Type 0} (f : A → B) (xs : List A) (p : ℕ) (x : A) (d : B) → slice_get xs p ≡ Some x
     → get_or (map f xs) p d ≡ f x

@@ -4,7 +4,7 @@ use Rattle.std.specs.Global.{Global}
 use Rattle.def_model.specs.Events.{Event, events_of, event_count}
 use Rattle.def_format.specs.Limits.{event_limit, process_limit}
 use Rattle.def_model.specs.Predicates.{Initial, Recorded}
-use Rattle.pd_clock.specs.States.{values_at}
+use Rattle.pd_clock.specs.States.{history_at, values_at}
 use Rattle.pd_clock.specs.Histories.{AreVars, rows_after}
 use Rattle.read_traces.specs.Views.{computation_view}
 use Rattle.read_traces.specs.declared.event.Trace.{Trace}
@@ -27,8 +27,8 @@ pub record FitsInitial (initial : List (Vec ℤ Global)) (traces : List Trace) :
       → All (λ (event : Event). AreVars (length (values_at initial p)) event.sets) process.events
 
 -- the history of each process: its initial values and the row after each event
-pub record Keeps (initial : List (Vec ℤ Global)) (traces : List Trace) (histories : List (Vec ℤ Global)) : Type 0 where
+pub record Keeps (initial : List (Vec ℤ Global)) (traces : List Trace) (histories : List (List ℤ)) : Type 0 where
   pub fits : FitsInitial initial traces
   pub one_each : length histories ≡ length initial
-  pub rows : (p : ℕ) → values_at histories p ≡ values_at initial p
+  pub rows : (p : ℕ) → history_at histories p ≡ values_at initial p
       ++ rows_after (values_at initial p) (events_of (computation_view traces) p)

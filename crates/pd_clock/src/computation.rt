@@ -21,7 +21,7 @@ use super::order::{Order, put_in_order};
 use super::state::value_in_history;
 use super::{BuildFault, Cut, State};
 use pd_match::{Matched, Place};
-use read_traces::{InitialValues, Trace};
+use read_traces::{InitialValues, Numbers, Trace};
 use std::alloc::{AllocError, Global};
 use std::marker::Model;
 
@@ -31,7 +31,7 @@ use std::marker::Model;
 pub struct Computation<'a> {
     initial: &'a [Vec<i64>],
     traces: &'a [Trace],
-    histories: Vec<Vec<i64>>,
+    histories: Vec<Numbers>,
     clocks: Vec<Vec<u16>>,
     matched: Matched,
 }
@@ -61,7 +61,7 @@ fn histories(
     alloc: Global,
     initial: &[Vec<i64>],
     traces: &[Trace],
-) -> Result<Vec<Vec<i64>>, AllocError>
+) -> Result<Vec<Numbers>, AllocError>
     requires { FitsInitial initial.now traces.now }
     ensures { IfOk result (λ histories. Keeps initial.now traces.now histories.items) }
 {

@@ -3,19 +3,21 @@ ghost use Rattle.pd_clock.specs.Histories.{AreVars, row_after, rows_after};
 ghost use Rattle.def_model.specs.Events.{Event};
 ghost use Rattle.std.specs.Prelude.{◌≡◌, ◌++◌, ◌<◌, All, IfOk, length, slice_set};
 
-use read_traces::{Events, Settings};
+use read_traces::{Events, Numbers, Settings};
 use std::alloc::{AllocError, Global};
 
 /// The row of values before the first event, and the row after each event, one after another.
-pub(crate) fn history(alloc: Global, start: &[i64], events: &Events) -> Result<Vec<i64>, AllocError>
+pub(crate) fn history(alloc: Global, start: &[i64], events: &Events) -> Result<Numbers, AllocError>
     requires { All (λ (event : Event). AreVars (length start.now) event.sets) events.now }
-    ensures { IfOk result (λ values. values.items ≡ start.now ++ rows_after start.now events.now) }
+    ensures { IfOk result (λ values. values ≡ start.now ++ rows_after start.now events.now) }
 {
     let mut row = start.to_vec(alloc)?;
-    let mut values = start.to_vec(alloc)?;
+    let mut values = Numbers::new(alloc);
+    values.reserve(start.len().saturating_mul(events.len().saturating_add(1)))?;
+    values.extend(start)?;
     for k in 0..events.len() {
         apply(&mut row, &events.settings(k));
-        values.extend_from_slice(&row)?;
+        values.extend(&row)?;
     }
     Ok(values)
 }

@@ -1,3 +1,4 @@
+pub mod NumberSlots
 pub mod Columns
 pub mod Views
 pub mod SessionTraces

@@ -5,7 +5,7 @@ ghost use Rattle.def_model.specs.Events as events;
 ghost use Rattle.std.specs.Prelude.{◌≡◌, ◌+◌, ◌<◌, ◌≤◌, ◌^◌, ◌++◌, [], ◌∷◌, IfOk, OnErr, OnOk, Some, length, option_map, slice_get, take};
 
 use super::entry::{Entry, Tag};
-use super::{Event, EventKind, Kind, Settings};
+use super::{Event, EventKind, Kind, Numbers, Settings};
 use std::alloc::{AllocError, Global};
 use std::marker::Model;
 
@@ -16,7 +16,7 @@ pub struct Events {
     entries: Vec<Entry>,
     ids: Vec<u8>,
     places: Vec<u8>,
-    values: Vec<i64>,
+    values: Numbers,
 }
 
 impl Model for Events {
@@ -26,9 +26,9 @@ impl Model for Events {
 
     ghost Value = { List events.Event };
 
-    ghost view = { λ e. columns_view e.ids.items e.places.items e.values.items e.entries.items };
+    ghost view = { λ e. columns_view e.ids.items e.places.items e.values e.entries.items };
 
-    ghost invariant = { λ e. AreWithin e.ids.items e.places.items e.values.items e.entries.items };
+    ghost invariant = { λ e. AreWithin e.ids.items e.places.items e.values e.entries.items };
 }
 
 /// The bytes that stand from here on.
@@ -37,15 +37,6 @@ fn bytes_at(ids: &[u8], start: u32, len: u32) -> &[u8]
     ensures { result.now ≡ part start len ids.now }
 {
     let rest = &ids[start as usize..];
-    &rest[..len as usize]
-}
-
-/// The values that stand from here on.
-fn values_at(values: &[i64], start: u32, len: u32) -> &[i64]
-    requires { start + len ≤ length values.now }
-    ensures { result.now ≡ part start len values.now }
-{
-    let rest = &values[start as usize..];
     &rest[..len as usize]
 }
 
@@ -133,9 +124,9 @@ fn add_places(places: &mut Vec<u8>, new: &[(usize, i64)]) -> Result<(), AllocErr
 }
 
 /// Adds the values of these settings. If memory runs out the column keeps what it had, and may have more after it.
-fn add_values(values: &mut Vec<i64>, new: &[(usize, i64)]) -> Result<(), AllocError>
-    ensures ok { OnOk result (values.new.items ≡ values.old.items ++ values_in new.now) }
-    ensures err { OnErr result (take (length values.old.items) values.new.items ≡ values.old.items) }
+fn add_values(values: &mut Numbers, new: &[(usize, i64)]) -> Result<(), AllocError>
+    ensures ok { OnOk result (values.new ≡ values.old ++ values_in new.now) }
+    ensures err { OnErr result (take (length values.old) values.new ≡ values.old) }
 {
     for setting in new {
         values.push(setting.1)?;
@@ -148,7 +139,7 @@ fn add(
     entries: &mut Vec<Entry>,
     ids: &mut Vec<u8>,
     places: &mut Vec<u8>,
-    values: &mut Vec<i64>,
+    values: &mut Numbers,
     made: Entry,
     id: &[u8],
     new: &[(usize, i64)],
@@ -156,11 +147,11 @@ fn add(
     ensures entries { OnOk result (entries.new.items ≡ entries.old.items ++ made ∷ []) }
     ensures ids { OnOk result (ids.new.items ≡ ids.old.items ++ id.now) }
     ensures places { OnOk result (places.new.items ≡ places.old.items ++ places_in new.now) }
-    ensures values { OnOk result (values.new.items ≡ values.old.items ++ values_in new.now) }
+    ensures values { OnOk result (values.new ≡ values.old ++ values_in new.now) }
     ensures err_entries { OnErr result (entries.new.items ≡ entries.old.items) }
     ensures err_ids { OnErr result (take (length ids.old.items) ids.new.items ≡ ids.old.items) }
     ensures err_places { OnErr result (take (length places.old.items) places.new.items ≡ places.old.items) }
-    ensures err_values { OnErr result (take (length values.old.items) values.new.items ≡ values.old.items) }
+    ensures err_values { OnErr result (take (length values.old) values.new ≡ values.old) }
 {
     ids.extend_from_slice(id)?;
     add_places(places, new)?;
@@ -178,7 +169,7 @@ impl Events {
             entries: Vec::new(alloc),
             ids: Vec::new(alloc),
             places: Vec::new(alloc),
-            values: Vec::new(alloc),
+            values: Numbers::new(alloc),
         }
     }
 
@@ -193,7 +184,7 @@ impl Events {
     ///
     /// # Errors
     /// If memory runs out, or all ids have 2^32 bytes or more, or there are 2^32 settings or more, or a variable has
-    /// the place 256 or more, for which there is no room. The events are then as they were.
+    /// the place 256 or more, or 2^30 values have no room in 32 bits. The events are then as they were.
     pub fn push(&mut self, event: &Event) -> Result<(), AllocError>
         ensures ok { OnOk result (self.new ≡ self.old ++ event_view event.now ∷ []) }
         ensures err { OnErr result (self.new ≡ self.old) }
@@ -256,7 +247,6 @@ impl Events {
     {
         let entry = self.entries[k];
         let places = bytes_at(&self.places, entry.set_start, entry.set_len);
-        let values = values_at(&self.values, entry.set_start, entry.set_len);
-        Settings::new(places, values)
+        Settings::new(places, &self.values, entry.set_start as usize)
     }
 }

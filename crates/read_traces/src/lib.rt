@@ -6,6 +6,7 @@
 //! - `event`: events and traces
 //! - `entry`: where the parts of an event stand in the columns of a process's events
 //! - `kind`: the kind of an event, as it is seen there
+//! - `numbers`: a column of numbers
 //! - `settings`: what an event sets, as it is seen there
 //! - `events`: the events of a process, in columns
 //! - `initial`: the values of variables before any event
@@ -16,10 +17,12 @@ mod event;
 mod events;
 mod initial;
 mod kind;
+mod numbers;
 mod settings;
 
 pub use event::{Event, EventKind, Trace};
 pub use events::{Events, seen};
 pub use initial::InitialValues;
 pub use kind::Kind;
+pub use numbers::Numbers;
 pub use settings::Settings;

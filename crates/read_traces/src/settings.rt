@@ -1,51 +1,53 @@
 //! What an event sets.
+ghost use Rattle.read_traces.specs.Columns.{part};
 ghost use Rattle.std.specs.List.{zip};
-ghost use Rattle.std.specs.Prelude.{◌≡◌, ◌<◌, Some, length, pos, slice_get, slice_index_or};
+ghost use Rattle.std.specs.Prelude.{◌≡◌, ◌+◌, ◌<◌, ◌≤◌, Some, length, slice_get};
 
+use super::Numbers;
 use std::marker::Model;
 
 /// The variables that an event sets, with their values. A clause sees them as a list.
 #[derive(Drop)]
 pub struct Settings<'a> {
     places: &'a [u8],
-    values: &'a [i64],
+    values: &'a Numbers,
+    start: usize,
 }
 
 impl<'a> Model for Settings<'a> {
+    ghost use Rattle.read_traces.specs.Columns.{part};
     ghost use Rattle.std.specs.List.{zip};
-    ghost use Rattle.std.specs.Prelude.{◌≡◌, ℕ, List, ℤ, length};
+    ghost use Rattle.std.specs.Prelude.{◌+◌, ◌≤◌, ℕ, List, ℤ, length};
 
     ghost Value = { List (ℕ × ℤ) };
 
-    ghost view = { λ s. zip s.places.now s.values.now };
+    ghost view = { λ s. zip s.places.now (part s.start (length s.places.now) s.values.now) };
 
-    ghost invariant = { λ s. length s.places.now ≡ length s.values.now };
+    ghost invariant = { λ s. s.start + length s.places.now ≤ length s.values.now };
 }
 
-/// The value at this index.
-fn value_at(values: &[i64], i: usize) -> i64
-    requires { i < length values.now }
-    ensures { result ≡ slice_index_or values.now i (pos 0) }
+/// The setting at this index, whose value stands this far after the start.
+fn setting_at(places: &[u8], values: &Numbers, start: usize, i: usize) -> (usize, i64)
+    requires place { i < length places.now }
+    requires values { start + length places.now ≤ length values.now }
+    ensures { slice_get (zip places.now (part start (length places.now) values.now)) i ≡ Some result }
 {
-    values[i]
-}
-
-/// The setting at this index.
-fn setting_at(places: &[u8], values: &[i64], i: usize) -> (usize, i64)
-    requires places { i < length places.now }
-    requires values { i < length values.now }
-    ensures { slice_get (zip places.now values.now) i ≡ Some result }
-{
-    (places[i] as usize, value_at(values, i))
+    // A proof knows by this call that the sum below has room.
+    let _count = values.len();
+    (places[i] as usize, values.get(start + i))
 }
 
 impl<'a> Settings<'a> {
-    /// The settings of these variables to these values.
-    pub(crate) fn new(places: &'a [u8], values: &'a [i64]) -> Settings<'a>
-        requires { length places.now ≡ length values.now }
-        ensures { result ≡ zip places.now values.now }
+    /// The settings of these variables to the values that stand from this index on.
+    pub(crate) fn new(places: &'a [u8], values: &'a Numbers, start: usize) -> Settings<'a>
+        requires { start + length places.now ≤ length values.now }
+        ensures { result ≡ zip places.now (part start (length places.now) values.now) }
     {
-        Settings { places, values }
+        Settings {
+            places,
+            values,
+            start,
+        }
     }
 
     /// How many variables are set.
@@ -61,6 +63,6 @@ impl<'a> Settings<'a> {
         requires { i < length self.now }
         ensures { slice_get self.now i ≡ Some result }
     {
-        setting_at(self.places, self.values, i)
+        setting_at(self.places, self.values, self.start, i)
     }
 }

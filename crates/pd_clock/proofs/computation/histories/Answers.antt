@@ -6,8 +6,8 @@ use Rattle.def_model.specs.Events.{Event, events_of}
 use Rattle.pd_clock.specs.Histories.{AreVars, rows_after}
 use Rattle.read_traces.specs.declared.event.Trace.{Trace}
 use Rattle.read_traces.specs.Views.{computation_view}
-use Rattle.pd_clock.specs.States.{values_at}
-use Rattle.pd_clock.proofs.Parts.{got, values_read, values_before, values_last, values_past, events_read, events_past}
+use Rattle.pd_clock.specs.States.{history_at, values_at}
+use Rattle.pd_clock.proofs.Parts.{got, values_read, values_past, history_before, history_last, history_past, events_read, events_past}
 use Rattle.pd_clock.proofs.computation.histories.Goals as goal
 
 -- what holds of each event's settings holds of them by other names
@@ -41,17 +41,17 @@ loop-p-preserved c =
     events_read c.args.traces.now c.loop-p.p c.index-traces-p.result within c.index-traces-p.is in
     let pushed : c.push.new.self.items ≡ c.loop-p.histories.items ++ c.in_ok-history.field-0 ∷ [] =
     c.in_ok-push.ensures.items in
-    let made : c.in_ok-history.field-0.items ≡ c.deref.result.now
+    let made : c.in_ok-history.field-0 ≡ c.deref.result.now
     ++ rows_after c.deref.result.now c.index-traces-p.result.events =
     c.in_ok-history.ensures
     ∙ ap (λ (t : Trace). c.deref.result.now ++ rows_after c.deref.result.now t.events) (sym c.index-traces-p.is) in
     record {
       count = rw pushed (simp (length-append) (omega (arith, c.loop-p.invariant.count)));
-      rows = below_more (λ (k : ℕ). values_at c.push.new.self.items k ≡ values_at c.args.initial.now k
+      rows = below_more (λ (k : ℕ). history_at c.push.new.self.items k ≡ values_at c.args.initial.now k
           ++ rows_after (values_at c.args.initial.now k) (events_of (computation_view c.args.traces.now) k)) c.loop-p.p
-          (λ k lt. rw pushed (values_before c.loop-p.histories.items c.in_ok-history.field-0 k
+          (λ k lt. rw pushed (history_before c.loop-p.histories.items c.in_ok-history.field-0 k
           (omega (arith, c.loop-p.invariant.count)) ∙ c.loop-p.invariant.rows k lt))
-          (rw (pushed, row, events) (values_last c.loop-p.histories.items c.in_ok-history.field-0 c.loop-p.p
+          (rw (pushed, row, events) (history_last c.loop-p.histories.items c.in_ok-history.field-0 c.loop-p.p
           (sym c.loop-p.invariant.count)
           ∙ (made ∙ rw c.deref.ensures.value refl)));
     }
@@ -66,14 +66,14 @@ returns c =
       rows = λ p. go p (cases_lt p c.loop-p.p);
     }
   where
-    go : (p : ℕ) → (p < c.loop-p.p) ⊎ (c.loop-p.p ≤ p) → values_at c.loop-p.histories.items p
+    go : (p : ℕ) → (p < c.loop-p.p) ⊎ (c.loop-p.p ≤ p) → history_at c.loop-p.histories.items p
         ≡ values_at c.args.initial.now p ++ rows_after (values_at c.args.initial.now p)
         (events_of (computation_view c.args.traces.now) p)
     go p (inl lt) = c.loop-p.invariant.rows p lt
     go p (inr le) =
         let all : length c.args.traces.now ≤ c.loop-p.p = c.loop-p-test.false in
         rw (
-          values_past c.loop-p.histories.items p (omega (arith, c.loop-p.invariant.count)),
+          history_past c.loop-p.histories.items p (omega (arith, c.loop-p.invariant.count)),
           values_past c.args.initial.now p (omega (arith, c.requires.same)),
           events_past c.args.traces.now p (omega arith),
         ) refl

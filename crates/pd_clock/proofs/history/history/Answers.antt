@@ -16,16 +16,16 @@ loop-k-preserved c =
     let next = row_after row c.settings.result in
     let later = drop (c.loop-k.k + 1) c.args.events.now in
     let made : c.apply.new.row.items ≡ next = c.apply.ensures in
-    let added : c.extend_from_slice.new.self.items ≡ c.loop-k.values.items ++ next =
-    c.in_ok-extend_from_slice.ensures.items
-    ∙ ap (λ (xs : List ℤ). c.loop-k.values.items ++ xs) (c.deref.ensures.value ∙ made) in
+    let added : c.extend-in-loop-k.new.self ≡ c.loop-k.values ++ next =
+    c.in_ok-extend-2.ensures.ok
+    ∙ ap (λ (xs : List ℤ). c.loop-k.values ++ xs) (c.deref.ensures.value ∙ made) in
     record {
       width = ap (λ (xs : List ℤ). length xs) made
           ∙ (length-row_after row c.settings.result ∙ c.loop-k.invariant.width);
       so_far =
           (λ i. added i ++ rows_after (made i) later)
-          ∙ (append_assoc c.loop-k.values.items next (rows_after next later)
-          ∙ (ap (λ (xs : List ℤ). c.loop-k.values.items ++ xs)
+          ∙ (append_assoc c.loop-k.values next (rows_after next later)
+          ∙ (ap (λ (xs : List ℤ). c.loop-k.values ++ xs)
           (sym (rows_more row c.args.events.now c.loop-k.k c.settings.result c.settings.ensures))
           ∙ c.loop-k.invariant.so_far));
     }

@@ -6,5 +6,5 @@ use Rattle.pd_clock.proofs.history.history.Given as goal
 abbrev pub invariant-loop-k : goal.invariant-loop-k
 invariant-loop-k l = record {
   width : length l.row.items ≡ length l.start;
-  so_far : l.values.items ++ rows_after l.row.items (drop l.k l.events) ≡ l.start ++ rows_after l.start l.events;
+  so_far : l.values ++ rows_after l.row.items (drop l.k l.events) ≡ l.start ++ rows_after l.start l.events;
 }

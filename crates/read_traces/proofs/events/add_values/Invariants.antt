@@ -5,4 +5,4 @@ use Rattle.read_traces.proofs.events.add_values.Given as goal
 
 -- the column has those of the settings so far
 abbrev pub invariant-loop-setting : goal.invariant-loop-setting
-invariant-loop-setting l = l.values.items ≡ l.initial.values.items ++ values_in (take l.setting-index l.new)
+invariant-loop-setting l = l.values ≡ l.initial.values ++ values_in (take l.setting-index l.new)

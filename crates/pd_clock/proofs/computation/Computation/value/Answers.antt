@@ -5,9 +5,9 @@ use Rattle.std.proofs.lemmas.Int.{to_z-of_z}
 use Rattle.def_model.specs.Events.{event_count}
 use Rattle.def_model.specs.Predicates.{Recorded, state_at}
 use Rattle.read_traces.specs.Views.{computation_view}
-use Rattle.pd_clock.specs.States.{value_in, values_at}
+use Rattle.pd_clock.specs.States.{history_at, value_in, values_at}
 use Rattle.pd_clock.proofs.Lookups.{count_there, row_there, value_is_state}
-use Rattle.pd_clock.proofs.Parts.{values_read}
+use Rattle.pd_clock.proofs.Parts.{history_read, values_read}
 use Rattle.pd_clock.proofs.computation.Computation.value.Goals as goal
 
 -- the row of a process, as it is read
@@ -26,9 +26,8 @@ value_in_history-requires c =
     let start : values_at c.self.inside.initial.now c.args.process ≡ c.deref.result.now =
     row_read c.self.inside.initial.now c.args.process c.index-self-process.result c.deref.result.now lt
     c.index-self-process.is c.deref.ensures.value in
-    let history : values_at c.self.inside.histories.items c.args.process ≡ c.deref-2.result.now =
-    values_read c.self.inside.histories.items c.args.process c.index.result.now there c.index.ensures
-    ∙ sym c.deref-2.ensures.value in
+    let history : history_at c.self.inside.histories.items c.args.process ≡ c.index.result.now =
+    history_read c.self.inside.histories.items c.args.process c.index.result.now there c.index.ensures in
     rw (← start, ← history) (row_there c.self.inside.initial.now c.self.inside.traces.now c.self.inside.histories.items
     c.self.invariant.0 c.args.process c.args.count le)
 
@@ -43,14 +42,13 @@ returns c =
     let start : values_at c.self.inside.initial.now c.args.process ≡ c.deref.result.now =
     row_read c.self.inside.initial.now c.args.process c.index-self-process.result c.deref.result.now lt
     c.index-self-process.is c.deref.ensures.value in
-    let history : values_at c.self.inside.histories.items c.args.process ≡ c.deref-2.result.now =
-    values_read c.self.inside.histories.items c.args.process c.index.result.now there c.index.ensures
-    ∙ sym c.deref-2.ensures.value in
+    let history : history_at c.self.inside.histories.items c.args.process ≡ c.index.result.now =
+    history_read c.self.inside.histories.items c.args.process c.index.result.now there c.index.ensures in
     λ counts at.
     let here : get_or counts c.args.process 0 ≤ event_count (computation_view c.self.inside.traces.now) c.args.process =
     rw at le in
     let read : c.value_in_history.result ≡ value_in (values_at c.self.inside.initial.now c.args.process)
-    (values_at c.self.inside.histories.items c.args.process) (get_or counts c.args.process 0) c.args.var =
+    (history_at c.self.inside.histories.items c.args.process) (get_or counts c.args.process 0) c.args.var =
     rw (start, history, at) c.value_in_history.ensures in
     to_z-of_z w64 c.value_in_history.result (record { sfits = c.value_in_history.type_inv }) ∙
     subst (λ (r : Recorded). c.value_in_history.result ≡ state_at r.initial r.events counts c.args.process c.args.var)

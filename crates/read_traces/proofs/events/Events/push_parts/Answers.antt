@@ -10,7 +10,7 @@ pub returns-in-Ok-clause-ok : goal.returns-in-Ok-clause-ok
 returns-in-Ok-clause-ok c =
     let ids = c.self.inside.ids.items in
     let places = c.self.inside.places.items in
-    let values = c.self.inside.values.items in
+    let values = c.self.inside.values in
     let entries = c.self.inside.entries.items in
     let id = c.tagged-tag.result.1.now in
     let new = c.args.sets.now in

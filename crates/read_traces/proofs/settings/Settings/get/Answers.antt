@@ -1,23 +1,13 @@
 -- The setting at an index.
 use Rattle.std.proofs.Common.{length, ap, arith}
-use Rattle.read_traces.proofs.SettingFacts.{length_zipped}
+use Rattle.read_traces.proofs.SettingFacts.{settings_length}
 use Rattle.read_traces.proofs.settings.Settings.get.Goals as goal
 
-pub setting_at-requires-clause-places : goal.setting_at-requires-clause-places
-setting_at-requires-clause-places c =
+pub setting_at-requires-clause-place : goal.setting_at-requires-clause-place
+setting_at-requires-clause-place c =
     omega (
       arith,
       c.requires,
       ap length c.self.view_is,
-      length_zipped c.self.inside.places.now c.self.inside.values.now c.self.invariant,
-    )
-
-pub setting_at-requires-clause-values : goal.setting_at-requires-clause-values
-setting_at-requires-clause-values c =
-    omega (
-      arith,
-      c.requires,
-      ap length c.self.view_is,
-      c.self.invariant,
-      length_zipped c.self.inside.places.now c.self.inside.values.now c.self.invariant,
+      settings_length c.self.inside.places.now c.self.inside.values.now c.self.inside.start c.self.invariant,
     )
