@@ -7,8 +7,11 @@ stand the sums, the time that passed, and the longest chain of crates, each of w
 before it. The status is the gate's.
 
 costs.py --functions CRATE.. [--over FOLDER]: proves these crates on one processor, over libraries that are built (`rt
-ci` leaves them in out/, here or in another clone, FOLDER), and names the ten functions whose proofs took longest,
-in seconds of the processor. The first has the start of the check with it.
+ci` leaves them in out/, here or in another clone, FOLDER), says what was spent on the borrow checker's
+part, on goals that are searched, on answers, lemmas and statements, and names the ten functions that took longest, each
+with what took most of it. So it is seen whether a proof is slow, which an answer mends, or the code, whose paths the
+borrow checker goes through: fewer values that are owned while calls may fail, and smaller functions. The seconds are
+those that pass, on a machine with little else at work, and the start of the check isn't among them.
 
 Each process is looked at four times a second, so the last quarter of a second of each is not seen: the line `not seen`
 says how much that is.
@@ -20,6 +23,7 @@ import re
 import resource
 import subprocess
 import sys
+import tempfile
 import threading
 import time
 
@@ -29,6 +33,11 @@ from layout import libraries, rattle_words  # noqa: E402
 ROOT = os.path.dirname(os.path.dirname(os.path.abspath(__file__)))
 TICK = os.sysconf("SC_CLK_TCK")
 PAUSE = 0.25
+KEPT = ".oantt"
+# What a module does that the kit makes of a function, by its name.
+PARTS = {"Lts": "borrow checker", "Tie": "borrow checker", "Reads": "borrow checker", "Kinds": "borrow checker",
+         "Layout": "borrow checker", "Proof": "goals", "Goals": "goals", "Answers": "answers", "Invariants": "answers",
+         "Code": "code", "Mir": "code", "Statement": "statements", "Named": "statements", "Met": "statements"}
 KINDS = ("proof", "tests", "edits", "runs", "rt")
 HEADS = ("proof", "tests", "edits", "runs", "rt itself")
 
@@ -165,29 +174,42 @@ def measure(command):
     return status
 
 
+def part_of(module):
+    """The function, or the file of lemmas or definitions, that a module is a part of, and what that part does."""
+    words = module.split(".")
+    at = next((at for at in range(len(words) - 1, 0, -1) if words[at].split("-")[0] in PARTS), None)
+    return (".".join(words[1:at]), PARTS[words[at].split("-")[0]]) if at else (".".join(words[1:]), "statements")
+
+
+def times_of(kept):
+    """The seconds that each module took, by when each was kept: one job checks one after another."""
+    files = sorted((os.stat(os.path.join(at, name)).st_mtime_ns, name[:-len(KEPT)]) for at, _, names in os.walk(kept)
+                   for name in names if name.endswith(KEPT) and not name.endswith(f".decls{KEPT}"))
+    return [((then - before) / 1e9, name) for (before, _), (then, name) in zip(files, files[1:])]
+
+
 def slowest(name, over):
-    """Prints the ten functions of the crate whose proofs take longest, over the libraries that stand in a clone."""
+    """Prints what the proofs of a crate cost by kind, and its ten slowest functions, each with the part that takes most
+    of it, over the libraries that stand in a clone."""
     folder = os.path.join(ROOT, "crates", name)
     words = rattle_words("check", name, lambda it: os.path.join(over, "crates", it, "out", "rlib", f"{it}.rlib"))
-    words += ["--progress", "--jobs", "1"]
     is_tests = not re.search(r"^\s*pub fn ", source_of(folder), re.M)
-    ran = subprocess.Popen(words + ["--test"] * is_tests, cwd=folder, text=True, stdout=subprocess.PIPE,
-                           stderr=subprocess.STDOUT)
-    last, times, said = 0, [], []
-    for line in ran.stdout:
-        found = re.match(r"checked (\S+), ", line)
-        if found:
-            process = Process(ran.pid)
-            now = process.own + process.ended
-            times.append((now - last, found[1]))
-            last = now
-        else:
-            said.append(line)
-    if ran.wait():
-        print("".join(said[-20:]), end="")
-    print(f"{name}: {len(times)} functions, {sum(it for it, _ in times):.0f} s")
-    for seconds, function in sorted(times, reverse=True)[:10]:
-        print(f"{seconds:8.1f} s  {function}")
+    with tempfile.TemporaryDirectory(prefix="monitor-costs-") as kept:
+        words += ["--jobs", "1", "--incremental", kept, *["--test"] * is_tests]
+        ran = subprocess.run(words, cwd=folder, text=True, stdout=subprocess.PIPE, stderr=subprocess.STDOUT, check=False)
+        times = times_of(kept)
+    if ran.returncode:
+        print("".join(ran.stdout.splitlines(True)[-20:]), end="")
+    kinds, functions = collections.Counter(), collections.defaultdict(collections.Counter)
+    for seconds, module in times:
+        function, kind = part_of(module)
+        kinds[kind] += seconds
+        functions[function][kind] += seconds
+    parts = ", ".join(f"{seconds:.0f} s {kind}" for kind, seconds in kinds.most_common())
+    print(f"{name}: {sum(kinds.values()):.0f} s: {parts}")
+    for function in sorted(functions, key=lambda it: -functions[it].total())[:10]:
+        kind, most = functions[function].most_common(1)[0]
+        print(f"{functions[function].total():8.1f} s  {function}: {most:.1f} s {kind}")
     return ran.returncode
 
 
