@@ -5,12 +5,12 @@ use super::possible::{named_count, say_possible};
 use super::session::Session;
 use super::undecided::{say_bundle, say_undecided};
 use super::why_not::say_why_not;
-use app_text::{say, say_name, say_number};
+use app_text::Text;
 use judge_facts::first_run;
 use pd_pred::Pred;
 use pd_report::{Answer, Definitely, Path, Possibly};
 use pd_spec::NamedPred;
-use std::alloc::{AllocError, Global};
+use std::alloc::Global;
 use std::random::RandomSource;
 
 /// The most runs of steps by which an observation is said.
@@ -38,141 +38,130 @@ fn runs_in(steps: &[usize]) -> u64 {
 }
 
 /// Says the first run of steps: how many events of which process.
-fn say_run(out: &mut Vec<u8>, names: &[String], steps: &[usize]) -> Result<(), AllocError> {
+fn say_run(out: &mut Text, names: &[String], steps: &[usize]) {
     let Some(name) = steps.first().and_then(|step| names.get(*step)) else {
-        return Ok(());
+        return;
     };
     let count = first_run(steps) as u64;
-    say_number(out, count)?;
-    say(
-        out,
-        if count == 1 {
-            " event of "
-        } else {
-            " events of "
-        },
-    )?;
-    say_name(out, name)
+    out.say_number(count);
+    out.say(if count == 1 {
+        " event of "
+    } else {
+        " events of "
+    });
+    out.say_name(name);
 }
 
 /// Says an observation by its runs of steps, if they are few.
-fn say_path(out: &mut Vec<u8>, path: &Path) -> Result<(), AllocError> {
+fn say_path(out: &mut Text, path: &Path) {
     let (names, steps) = path.parts();
     if steps.is_empty() || runs_in(steps) > RUNS {
-        return Ok(());
+        return;
     }
     let mut before = "One such order: ";
     let mut rest = steps;
     for _run in 0..RUNS {
         if rest.is_empty() {
-            return say(out, ".\n");
+            out.say(".\n");
+            return;
         }
-        say(out, before)?;
-        say_run(out, names, rest)?;
+        out.say(before);
+        say_run(out, names, rest);
         rest = after_run(rest);
         before = ", then ";
     }
-    say(out, ".\n")
+    out.say(".\n");
 }
 
 /// Says that a predicate can't be true, and why.
 fn say_impossible<R: RandomSource>(
-    out: &mut Vec<u8>,
+    out: &mut Text,
     rt: &R,
     alloc: Global,
     session: &Session<'_, '_>,
     name: &str,
     pred: &Pred,
-) -> Result<(), AllocError>
+)
     requires { IsJudged session.now }
 {
-    say_name(out, name)?;
+    out.say_name(name);
     if named_count(pred.tree(), session.computation.processes()) == 0 {
-        return say(out, " cannot happen: it names no variable, and is false.\n");
+        out.say(" cannot happen: it names no variable, and is false.\n");
+        return;
     }
-    say_why_not(out, rt, alloc, session, pred)
+    say_why_not(out, rt, alloc, session, pred);
 }
 
 /// Says that a predicate is true in each order, at the latest at this level.
-fn say_always(out: &mut Vec<u8>, name: &str, level: u64) -> Result<(), AllocError> {
-    say_name(out, name)?;
+fn say_always(out: &mut Text, name: &str, level: u64) {
+    out.say_name(name);
     if level == 0 {
-        return say(out, " always happens: it is true before the first event.\n");
+        out.say(" always happens: it is true before the first event.\n");
+        return;
     }
-    say(
-        out,
-        " always happens, in every order that fits the messages:\nat the latest after ",
-    )?;
-    say_number(out, level)?;
-    say(
-        out,
-        if level == 1 {
-            " event.\n"
-        } else {
-            " events.\n"
-        },
-    )
+    out.say(" always happens, in every order that fits the messages:\nat the latest after ");
+    out.say_number(level);
+    out.say(if level == 1 {
+        " event.\n"
+    } else {
+        " events.\n"
+    });
 }
 
 /// Says that a predicate need not be true at any time.
-fn say_avoidable(out: &mut Vec<u8>, name: &str, path: &Path) -> Result<(), AllocError> {
-    say_name(out, name)?;
-    say(
-        out,
-        " need not happen: in some order that fits the messages it never does.\n",
-    )?;
-    say_path(out, path)
+fn say_avoidable(out: &mut Text, name: &str, path: &Path) {
+    out.say_name(name);
+    out.say(" need not happen: in some order that fits the messages it never does.\n");
+    say_path(out, path);
 }
 
 /// Says what a known answer means. That what can't happen need not isn't said.
 fn say_answer<R: RandomSource>(
-    out: &mut Vec<u8>,
+    out: &mut Text,
     rt: &R,
     alloc: Global,
     session: &Session<'_, '_>,
     asked: &NamedPred,
     answer: &Answer,
-) -> Result<(), AllocError>
+)
     requires { IsJudged session.now }
 {
     let (name, tree) = (answer.name.as_str(), asked.pred.tree());
     match &answer.possibly {
-        Possibly::Yes(counts) => say_possible(out, alloc, session, name, tree, counts)?,
+        Possibly::Yes(counts) => say_possible(out, alloc, session, name, tree, counts),
         Possibly::No => {
-            return say_impossible(out, rt, alloc, session, name, &asked.pred);
+            say_impossible(out, rt, alloc, session, name, &asked.pred);
+            return;
         }
         Possibly::Unknown(_) => {}
     }
     match &answer.definitely {
         Definitely::Yes(level) => say_always(out, name, *level),
         Definitely::No(path) => say_avoidable(out, name, path),
-        Definitely::Unknown(_) => Ok(()),
+        Definitely::Unknown(_) => (),
     }
 }
 
 /// Explains each answer that is known: that the predicate can happen, where and why, that it can't, that it always
 /// does, or that it need not; and says of each one that is unknown what would decide it at any width. The answers are
 /// those for the predicates of the document, in its order.
-///
-/// # Errors
-/// Out of memory; what was put until then stays.
 pub fn explain_known<R: RandomSource>(
-    out: &mut Vec<u8>,
+    out: &mut Text,
     rt: &R,
     alloc: Global,
     session: &Session<'_, '_>,
     answers: &[Answer],
-) -> Result<(), AllocError>
+)
     requires { IsJudged session.now }
 {
     let predicates = session.spec.predicates();
     let mut is_undecided = false;
     for (place, answer) in answers.iter().enumerate() {
         if let Some(asked) = predicates.get(place) {
-            say_answer(out, rt, alloc, session, asked, answer)?;
-            let said = say_undecided(out, session, asked.pred.tree(), answer)?;
+            say_answer(out, rt, alloc, session, asked, answer);
+            let said = say_undecided(out, session, asked.pred.tree(), answer);
             is_undecided = is_undecided || said;
         }
     }
-    say_bundle(out, session, is_undecided)
+    say_bundle(out, session, is_undecided);
 }

@@ -1,11 +1,10 @@
 //! Says what would decide an answer that is unknown at any width, or which rule doesn't apply.
 use super::forms::{PossiblyForm, decides_definitely, possibly_form};
 use super::session::Session;
-use app_text::{say, say_name};
+use app_text::Text;
 use def_format::WIDTH_LIMIT;
 use pd_pred::Tree;
 use pd_report::{Answer, Definitely, Possibly};
-use std::alloc::AllocError;
 
 /// What is said of a Possibly that is unknown, and was asked at the width alone.
 fn possibly_ways(form: PossiblyForm) -> &'static str {
@@ -49,51 +48,36 @@ several processes are equal"
 
 /// Says what would decide what is unknown of Possibly, of this form, and of Definitely, if they were asked at the width
 /// alone.
-fn say_ways(
-    out: &mut Vec<u8>,
-    possibly: Option<PossiblyForm>,
-    definitely: Option<bool>,
-) -> Result<(), AllocError> {
+fn say_ways(out: &mut Text, possibly: Option<PossiblyForm>, definitely: Option<bool>) {
     if let Some(form) = possibly {
-        say(out, possibly_ways(form))?;
+        out.say(possibly_ways(form));
     }
     match definitely {
-        Some(decides) => say(out, definitely_ways(possibly, decides)),
-        None => Ok(()),
+        Some(decides) => out.say(definitely_ways(possibly, decides)),
+        None => (),
     }
 }
 
 /// Says why the answers that are unknown weren't found beyond the width either: of Possibly of this form, and of
 /// Definitely with this width.
-fn say_reasons(
-    out: &mut Vec<u8>,
-    possibly: Option<PossiblyForm>,
-    definitely: Option<u64>,
-) -> Result<(), AllocError> {
+fn say_reasons(out: &mut Text, possibly: Option<PossiblyForm>, definitely: Option<u64>) {
     if let Some(form) = possibly {
-        say(
-            out,
-            "no rule decides at any width whether it possibly holds",
-        )?;
-        say(out, possibly_reason(form))?;
-        say(out, ", and it holds at none of the cuts that are tried")?;
+        out.say("no rule decides at any width whether it possibly holds");
+        out.say(possibly_reason(form));
+        out.say(", and it holds at none of the cuts that are tried");
     }
     let Some(width) = definitely else {
-        return Ok(());
+        return;
     };
-    say(out, if possibly.is_some() { "; " } else { "" })?;
-    say(
-        out,
+    out.say(if possibly.is_some() { "; " } else { "" });
+    out.say(
         "the search back for whether it definitely holds came to more dead ends than the width",
-    )?;
-    say(
-        out,
-        if width < WIDTH_LIMIT {
-            ", so a greater width may find it"
-        } else {
-            ""
-        },
-    )
+    );
+    out.say(if width < WIDTH_LIMIT {
+        ", so a greater width may find it"
+    } else {
+        ""
+    });
 }
 
 /// Whether a session was read of a bundle.
@@ -109,35 +93,22 @@ fn is_of_bundle(session: &Session<'_, '_>) -> bool {
 }
 
 /// Says how the session of a bundle is judged beyond the width, if something is undecided that was asked without that.
-///
-/// # Errors
-/// Out of memory; what was put until then stays.
-pub(crate) fn say_bundle(
-    out: &mut Vec<u8>,
-    session: &Session<'_, '_>,
-    is_undecided: bool,
-) -> Result<(), AllocError> {
+pub(crate) fn say_bundle(out: &mut Text, session: &Session<'_, '_>, is_undecided: bool) {
     if is_undecided && !session.spec.beyond_width() && is_of_bundle(session) {
-        return say(
-            out,
-            "A bundle is judged without --beyond-width: put its parts into files for that.\n",
-        );
+        out.say("A bundle is judged without --beyond-width: put its parts into files for that.\n");
+        return;
     }
-    Ok(())
 }
 
 /// Says of a predicate of which an answer is unknown what would decide it at any width, or which rule doesn't apply.
 /// Nothing is judged for that: it is said by the predicate alone, and by how it was asked. It gives whether an answer
 /// is unknown.
-///
-/// # Errors
-/// Out of memory; what was put until then stays.
 pub(crate) fn say_undecided(
-    out: &mut Vec<u8>,
+    out: &mut Text,
     session: &Session<'_, '_>,
     tree: &Tree,
     answer: &Answer,
-) -> Result<bool, AllocError> {
+) -> bool {
     let processes = session.computation.processes();
     let possibly = match &answer.possibly {
         Possibly::Unknown(_) => Some(possibly_form(tree, processes)),
@@ -148,17 +119,17 @@ pub(crate) fn say_undecided(
         Definitely::Yes(_) | Definitely::No(_) => false,
     };
     if possibly.is_none() && !is_definitely_unknown {
-        return Ok(false);
+        return false;
     }
-    say_name(out, answer.name.as_str())?;
-    say(out, " is undecided: ")?;
+    out.say_name(answer.name.as_str());
+    out.say(" is undecided: ");
     if session.spec.beyond_width() {
         let width = session.spec.width();
-        say_reasons(out, possibly, is_definitely_unknown.then_some(width))?;
+        say_reasons(out, possibly, is_definitely_unknown.then_some(width));
     } else {
         let decides = decides_definitely(tree, processes);
-        say_ways(out, possibly, is_definitely_unknown.then_some(decides))?;
+        say_ways(out, possibly, is_definitely_unknown.then_some(decides));
     }
-    say(out, ".\n")?;
-    Ok(true)
+    out.say(".\n");
+    true
 }

@@ -2,10 +2,9 @@
 use super::after_end::records_after;
 use super::possible::named_count;
 use super::session::{Session, name_of, source_of, vars_of};
-use app_text::{Source, record_after, say, say_name, say_number, say_shown};
+use app_text::{Source, Text, record_after};
 use judge_facts::{has_links, is_set, names_variable};
 use pd_spec::NamedPred;
-use std::alloc::{AllocError, Global};
 
 /// The first predicate that names a variable of a process, if one does.
 fn first_naming<'a>(
@@ -39,51 +38,43 @@ fn var_name(vars: &[String], var: usize) -> &str {
 
 /// Warns of a variable that a predicate names and no event sets.
 fn warn_unset(
-    out: &mut Vec<u8>,
-    alloc: Global,
+    out: &mut Text,
     session: &Session<'_, '_>,
     asked: &NamedPred,
     process: usize,
     var: usize,
-) -> Result<(), AllocError> {
+) {
     let names = session.spec.names();
     let value = initial_of(session, process, var);
-    say(out, "Warning: ")?;
-    say_name(out, &asked.name)?;
-    say(out, " names `")?;
-    say(out, name_of(names, process))?;
-    say(out, ".")?;
-    say(out, var_name(vars_of(names, process), var))?;
-    say(out, "`, which no event ")?;
+    out.say("Warning: ");
+    out.say_name(&asked.name);
+    out.say(" names `");
+    out.say(name_of(names, process));
+    out.say(".");
+    out.say(var_name(vars_of(names, process), var));
+    out.say("`, which no event ");
     if let Some(source) = source_of(session.sources, process) {
-        say(out, "in ")?;
-        say_shown(out, source.name.as_bytes())?;
-        say(out, " ")?;
+        out.say("in ");
+        out.say_shown(source.name.as_bytes());
+        out.say(" ");
     }
-    let said = format!(in alloc;
-        "sets: it stays {value}. Look whether it is recorded under this name.\n"
-    )?;
-    say(out, &said)
+    out.say("sets: it stays ");
+    out.say_signed(value);
+    out.say(". Look whether it is recorded under this name.\n");
 }
 
 /// Warns of the variables of a process that predicates name and no event sets.
-fn warn_unset_of(
-    out: &mut Vec<u8>,
-    alloc: Global,
-    session: &Session<'_, '_>,
-    process: usize,
-) -> Result<(), AllocError> {
+fn warn_unset_of(out: &mut Text, session: &Session<'_, '_>, process: usize) {
     let Some(trace) = session.traces.get(process) else {
-        return Ok(());
+        return;
     };
     for var in 0..vars_of(session.spec.names(), process).len() {
         if !is_set(&trace.events, var) {
             if let Some(asked) = first_naming(session.spec.predicates(), process, var) {
-                warn_unset(out, alloc, session, asked, process, var)?;
+                warn_unset(out, session, asked, process, var);
             }
         }
     }
-    Ok(())
 }
 
 /// Whether a predicate names processes of which no message leads from one to another.
@@ -93,110 +84,78 @@ fn is_unlinked(session: &Session<'_, '_>, asked: &NamedPred) -> bool {
 }
 
 /// Warns of predicates that name processes of which no message leads from one to another.
-fn warn_unlinked(out: &mut Vec<u8>, session: &Session<'_, '_>) -> Result<(), AllocError> {
+fn warn_unlinked(out: &mut Text, session: &Session<'_, '_>) {
     let mut before = "Warning: no message leads between the processes that are named by ";
     let mut is_found = false;
     for asked in session.spec.predicates() {
         if is_unlinked(session, asked) {
-            say(out, before)?;
-            say_name(out, &asked.name)?;
+            out.say(before);
+            out.say_name(&asked.name);
             before = ", ";
             is_found = true;
         }
     }
-    say(
-        out,
-        if is_found {
-            ". Then nothing orders their events: look whether all messages are recorded.\n"
-        } else {
-            ""
-        },
-    )
+    out.say(if is_found {
+        ". Then nothing orders their events: look whether all messages are recorded.\n"
+    } else {
+        ""
+    });
 }
 
 /// Warns of a stream without events.
-fn warn_empty(
-    out: &mut Vec<u8>,
-    session: &Session<'_, '_>,
-    source: &Source<'_>,
-    process: usize,
-) -> Result<(), AllocError> {
-    say(out, "Warning: process ")?;
-    say_name(out, name_of(session.spec.names(), process))?;
-    say(out, " has no event: ")?;
-    say_shown(out, source.name.as_bytes())?;
-    say(
-        out,
-        " ends after its first line. Look whether the process recorded into another file.\n",
-    )
+fn warn_empty(out: &mut Text, session: &Session<'_, '_>, source: &Source<'_>, process: usize) {
+    out.say("Warning: process ");
+    out.say_name(name_of(session.spec.names(), process));
+    out.say(" has no event: ");
+    out.say_shown(source.name.as_bytes());
+    out.say(" ends after its first line. Look whether the process recorded into another file.\n");
 }
 
 /// Warns of lines after the end line of a stream, of which there are this many or more.
-fn warn_others(
-    out: &mut Vec<u8>,
-    source: &Source<'_>,
-    events: u64,
-    others: u64,
-) -> Result<(), AllocError> {
-    say(out, "Warning: ")?;
-    say_shown(out, source.name.as_bytes())?;
-    say(out, " goes on after its end line")?;
+fn warn_others(out: &mut Text, source: &Source<'_>, events: u64, others: u64) {
+    out.say("Warning: ");
+    out.say_shown(source.name.as_bytes());
+    out.say(" goes on after its end line");
     if let Some(end) = record_after(source.bytes, events.saturating_add(1)) {
-        say(out, ", line ")?;
-        say_number(out, end.line)?;
+        out.say(", line ");
+        out.say_number(end.line);
     }
-    say(out, ": ")?;
-    say_number(out, others)?;
-    say(
-        out,
-        if others == 1 {
-            " line or more isn't judged.\n"
-        } else {
-            " lines or more aren't judged.\n"
-        },
-    )?;
-    say(
-        out,
-        "Are there two runs in one file? Then give each a file of its own.\n",
-    )
+    out.say(": ");
+    out.say_number(others);
+    out.say(if others == 1 {
+        " line or more isn't judged.\n"
+    } else {
+        " lines or more aren't judged.\n"
+    });
+    out.say("Are there two runs in one file? Then give each a file of its own.\n");
 }
 
 /// Warns of a stream without events, and of lines after its end line.
-fn warn_stream(
-    out: &mut Vec<u8>,
-    session: &Session<'_, '_>,
-    source: &Source<'_>,
-    process: usize,
-) -> Result<(), AllocError> {
+fn warn_stream(out: &mut Text, session: &Session<'_, '_>, source: &Source<'_>, process: usize) {
     let Some(trace) = session.traces.get(process) else {
-        return Ok(());
+        return;
     };
     let events = trace.events.len() as u64;
     if events == 0 {
-        warn_empty(out, session, source, process)?;
+        warn_empty(out, session, source, process);
     }
     let others = records_after(source.bytes, events.saturating_add(2));
     if others > 0 {
-        warn_others(out, source, events, others)?;
+        warn_others(out, source, events, others);
     }
-    Ok(())
 }
 
 /// Warns of what may make an answer right and of no use: a variable that a predicate names and no event sets, a
 /// predicate that names processes between which there are no messages, a stream without events, and lines after an end
 /// line.
-///
-/// # Errors
-/// Out of memory; what was put until then stays.
-pub fn warn(out: &mut Vec<u8>, alloc: Global, session: &Session<'_, '_>) -> Result<(), AllocError> {
+pub fn warn(out: &mut Text, session: &Session<'_, '_>) {
     for process in 0..session.computation.processes() {
-        warn_unset_of(out, alloc, session, process)?;
+        warn_unset_of(out, session, process);
     }
-    warn_unlinked(out, session)?;
+    warn_unlinked(out, session);
     for process in 0..session.computation.processes() {
         if let Some(source) = source_of(session.sources, process) {
-            warn_stream(out, session, &source, process)?;
+            warn_stream(out, session, &source, process);
         }
     }
-    Ok(())
 }

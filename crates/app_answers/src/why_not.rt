@@ -4,14 +4,14 @@ ghost use Rattle.app_answers.specs.Sessions.{IsJudged};
 use super::places::say_place;
 use super::possible::named_count;
 use super::session::{Session, name_of, vars_of};
-use app_text::{say, say_name, say_number, say_shown};
+use app_text::Text;
 use def_format::Version;
 use judge_causes::{Asked, Causes, causes_of, own_orders};
 use judge_facts::{kind_at, names_process, names_variable};
 use pd_clock::Place;
 use pd_pred::{Pred, Tree};
 use read_traces::Kind;
-use std::alloc::{AllocError, Global};
+use std::alloc::Global;
 use std::random::RandomSource;
 
 /// The most messages that are named.
@@ -76,16 +76,15 @@ fn trials_for(session: &Session<'_, '_>, tree: &Tree) -> u64 {
 }
 
 /// Says which of the processes a predicate names.
-fn say_named(out: &mut Vec<u8>, session: &Session<'_, '_>, tree: &Tree) -> Result<(), AllocError> {
+fn say_named(out: &mut Text, session: &Session<'_, '_>, tree: &Tree) {
     let mut before = "";
     for process in 0..session.computation.processes() {
         if names_process(tree, process) {
-            say(out, before)?;
-            say_name(out, name_of(session.spec.names(), process))?;
+            out.say(before);
+            out.say_name(name_of(session.spec.names(), process));
             before = ", ";
         }
     }
-    Ok(())
 }
 
 /// Whether a predicate names several variables of one process: then it matters in which order that had its states.
@@ -105,63 +104,44 @@ fn names_several(session: &Session<'_, '_>, tree: &Tree) -> bool {
 }
 
 /// Says that no states satisfy a predicate, whatever the messages are.
-fn say_stateless(
-    out: &mut Vec<u8>,
-    session: &Session<'_, '_>,
-    tree: &Tree,
-) -> Result<(), AllocError> {
-    say(
-        out,
-        " cannot happen, whatever the messages are: it is false for all values that ",
-    )?;
-    say_named(out, session, tree)?;
+fn say_stateless(out: &mut Text, session: &Session<'_, '_>, tree: &Tree) {
+    out.say(" cannot happen, whatever the messages are: it is false for all values that ");
+    say_named(out, session, tree);
     let is_one = named_count(tree, session.computation.processes()) == 1;
-    say(out, if is_one { " has" } else { " have" })?;
-    say(out, " at any time.\n")?;
+    out.say(if is_one { " has" } else { " have" });
+    out.say(" at any time.\n");
     if !names_several(session, tree) {
-        return Ok(());
+        return;
     }
-    say(
-        out,
-        "If one of these ran several tasks side by side, record each as a process.\n",
-    )
+    out.say("If one of these ran several tasks side by side, record each as a process.\n");
 }
 
 /// Says which event stands at a place, and where it was recorded.
-fn say_event(
-    out: &mut Vec<u8>,
-    session: &Session<'_, '_>,
-    place: Place,
-    article: &str,
-) -> Result<(), AllocError> {
-    say(out, article)?;
-    say_number(out, place.number)?;
-    say(out, " of ")?;
-    say_name(out, name_of(session.spec.names(), place.process))?;
-    say_place(out, session, place)
+fn say_event(out: &mut Text, session: &Session<'_, '_>, place: Place, article: &str) {
+    out.say(article);
+    out.say_number(place.number);
+    out.say(" of ");
+    out.say_name(name_of(session.spec.names(), place.process));
+    say_place(out, session, place);
 }
 
 /// Says who sends a message that is received at this place.
-fn say_message(
-    out: &mut Vec<u8>,
-    session: &Session<'_, '_>,
-    receipt: Place,
-) -> Result<(), AllocError> {
+fn say_message(out: &mut Text, session: &Session<'_, '_>, receipt: Place) {
     if !session.computation.has(receipt) {
-        return Ok(());
+        return;
     }
     let Some(send) = session.computation.sender(receipt) else {
-        return Ok(());
+        return;
     };
-    say_event(out, session, send, "Event ")?;
-    say(out, " sends ")?;
+    say_event(out, session, send, "Event ");
+    out.say(" sends ");
     if let Some(Kind::Recv(id)) = kind_at(session.traces, receipt) {
-        say(out, "`")?;
-        say_shown(out, id)?;
-        say(out, "`")?;
+        out.say("`");
+        out.say_shown(id);
+        out.say("`");
     }
-    say_event(out, session, receipt, ", which event ")?;
-    say(out, " receives.\n")
+    say_event(out, session, receipt, ", which event ");
+    out.say(" receives.\n");
 }
 
 /// What prevents a predicate, one of them or several: in version 2 several processes may receive one message.
@@ -185,96 +165,74 @@ fn preventing(version: Version, count: u64) -> &'static str {
 }
 
 /// Says how many messages prevent a predicate.
-fn say_count(out: &mut Vec<u8>, version: Version, causes: &Causes) -> Result<(), AllocError> {
+fn say_count(out: &mut Text, version: Version, causes: &Causes) {
     let count = causes.receipts.len() as u64;
-    say(out, " cannot happen: ")?;
-    say_number(out, count)?;
-    say(out, preventing(version, count))?;
-    say(
-        out,
-        if causes.are_needed {
-            ", whatever else happens.\n"
-        } else {
-            ", whatever else happens; fewer may be enough.\n"
-        },
-    )
+    out.say(" cannot happen: ");
+    out.say_number(count);
+    out.say(preventing(version, count));
+    out.say(if causes.are_needed {
+        ", whatever else happens.\n"
+    } else {
+        ", whatever else happens; fewer may be enough.\n"
+    });
 }
 
 /// Says which receipts come before which sends by the order of one process alone, each once.
-fn say_own_orders(
-    out: &mut Vec<u8>,
-    session: &Session<'_, '_>,
-    pairs: &[(Place, Place)],
-) -> Result<(), AllocError> {
+fn say_own_orders(out: &mut Text, session: &Session<'_, '_>, pairs: &[(Place, Place)]) {
     for (place, (receipt, send)) in pairs.iter().enumerate() {
         let earlier = pairs.get(..place).unwrap_or(&[]);
         if !earlier.contains(&(*receipt, *send)) {
-            say(out, "The order of ")?;
-            say_name(out, name_of(session.spec.names(), send.process))?;
-            say(out, " alone puts its event ")?;
-            say_number(out, receipt.number)?;
-            say(out, " before its event ")?;
-            say_number(out, send.number)?;
-            say(out, ".\n")?;
+            out.say("The order of ");
+            out.say_name(name_of(session.spec.names(), send.process));
+            out.say(" alone puts its event ");
+            out.say_number(receipt.number);
+            out.say(" before its event ");
+            out.say_number(send.number);
+            out.say(".\n");
         }
     }
     if pairs.is_empty() {
-        return Ok(());
+        return;
     }
-    say(
-        out,
-        "If it ran several tasks side by side, record each as a process.\n",
-    )
+    out.say("If it ran several tasks side by side, record each as a process.\n");
 }
 
 /// Says which messages prevent a predicate, the first ones if they are many.
-fn say_messages(
-    out: &mut Vec<u8>,
-    alloc: Global,
-    session: &Session<'_, '_>,
-    causes: &Causes,
-) -> Result<(), AllocError> {
+fn say_messages(out: &mut Text, alloc: Global, session: &Session<'_, '_>, causes: &Causes) {
     let count = causes.receipts.len();
-    say_count(out, session.spec.version(), causes)?;
+    say_count(out, session.spec.version(), causes);
     if count > SHOWN {
-        say(out, "The first of them are these:\n")?;
+        out.say("The first of them are these:\n");
     }
     let shown = causes.receipts.get(..SHOWN).unwrap_or(&causes.receipts);
     for receipt in shown {
-        say_message(out, session, *receipt)?;
+        say_message(out, session, *receipt);
     }
     if causes.are_needed && count > 1 {
-        say(
-            out,
-            "Each of them is needed: the others alone do not prevent it.\n",
-        )?;
+        out.say("Each of them is needed: the others alone do not prevent it.\n");
     }
     if count > SHOWN {
-        return Ok(());
+        return;
     }
-    let pairs = own_orders(alloc, session.computation, shown)?;
-    say_own_orders(out, session, &pairs)
+    let Some(pairs) = out.given(own_orders(alloc, session.computation, shown)) else {
+        return;
+    };
+    say_own_orders(out, session, &pairs);
 }
 
 /// Says no more than that a predicate can't be true.
-fn say_false(out: &mut Vec<u8>) -> Result<(), AllocError> {
-    say(
-        out,
-        " cannot happen: it is false in every global state that fits the messages.\n",
-    )
+fn say_false(out: &mut Text) {
+    out.say(" cannot happen: it is false in every global state that fits the messages.\n");
 }
 
 /// Says why a predicate can't be true, after its name.
-///
-/// # Errors
-/// An allocation was refused.
 pub(crate) fn say_why_not<R: RandomSource>(
-    out: &mut Vec<u8>,
+    out: &mut Text,
     rt: &R,
     alloc: Global,
     session: &Session<'_, '_>,
     pred: &Pred,
-) -> Result<(), AllocError>
+)
     requires { IsJudged session.now }
 {
     let asked = Asked {
@@ -283,15 +241,20 @@ pub(crate) fn say_why_not<R: RandomSource>(
         pred,
     };
     let trials = trials_for(session, pred.tree());
-    let found = causes_of(rt, alloc, &asked, session.computation, trials)?;
+    let Some(found) = out.given(causes_of(rt, alloc, &asked, session.computation, trials)) else {
+        return;
+    };
     let Some(causes) = found else {
-        return say_false(out);
+        say_false(out);
+        return;
     };
     if causes.receipts.is_empty() {
-        return say_stateless(out, session, pred.tree());
+        say_stateless(out, session, pred.tree());
+        return;
     }
     if !causes.are_needed && causes.receipts.len() > SHOWN {
-        return say_false(out);
+        say_false(out);
+        return;
     }
-    say_messages(out, alloc, session, &causes)
+    say_messages(out, alloc, session, &causes);
 }

@@ -1,21 +1,19 @@
 //! An explanation of how a batch ended.
 use app_ends::{put_fault, rows_of};
 use app_host::{System, World};
-use app_text::say;
+use app_text::Text;
 use judge_runs::Conclusion;
 use judge_session::EngineFault;
-use std::alloc::AllocError;
 
 /// Explains how a batch ended.
 fn put_batch<Y: System>(
-    out: &mut Vec<u8>,
+    out: &mut Text,
     world: &World<'_, Y>,
     end: &Result<Conclusion, EngineFault>,
-) -> Result<(), AllocError> {
+) {
     match end {
-        Ok(Conclusion::AllPass) => Ok(()),
-        Ok(Conclusion::SomeFails | Conclusion::SomeNotJudged) => say(
-            out,
+        Ok(Conclusion::AllPass) => (),
+        Ok(Conclusion::SomeFails | Conclusion::SomeNotJudged) => out.say(
             "What to do: look at the lines whose `status` isn't 0, or that have an `error`. `monitor merge` names \
 their sessions, and `monitor judge --explain --beyond-width RUN/session.json RUN/*.stream` explains the run in a \
 folder.\n",
@@ -29,9 +27,9 @@ pub fn batch_text<Y: System>(
     world: &World<'_, Y>,
     end: &Result<Conclusion, EngineFault>,
 ) -> Vec<u8> {
-    let mut out = Vec::new(world.alloc);
+    let mut out = Text::new(world.alloc);
     if world.explain {
-        let _ = put_batch(&mut out, world, end);
+        put_batch(&mut out, world, end);
     }
     rows_of(world.alloc, out)
 }

@@ -1,20 +1,14 @@
 //! An explanation of how a bundling of runs ended.
 use app_ends::{put_fault, rows_of};
 use app_host::{System, World};
-use app_text::say;
+use app_text::Text;
 use judge_session::EngineFault;
-use std::alloc::AllocError;
 
 /// Explains how a bundling ended.
-fn put_bundled<Y: System>(
-    out: &mut Vec<u8>,
-    world: &World<'_, Y>,
-    end: &Result<bool, EngineFault>,
-) -> Result<(), AllocError> {
+fn put_bundled<Y: System>(out: &mut Text, world: &World<'_, Y>, end: &Result<bool, EngineFault>) {
     match end {
-        Ok(true) => Ok(()),
-        Ok(false) => say(
-            out,
+        Ok(true) => (),
+        Ok(false) => out.say(
             "What to do: the lines with an `error` name the files. A run is a folder with session.json and, for each \
 process NAME of that, NAME.stream.\n",
         ),
@@ -27,9 +21,9 @@ pub fn bundle_runs_text<Y: System>(
     world: &World<'_, Y>,
     end: &Result<bool, EngineFault>,
 ) -> Vec<u8> {
-    let mut out = Vec::new(world.alloc);
+    let mut out = Text::new(world.alloc);
     if world.explain {
-        let _ = put_bundled(&mut out, world, end);
+        put_bundled(&mut out, world, end);
     }
     rows_of(world.alloc, out)
 }

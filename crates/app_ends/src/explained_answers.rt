@@ -5,7 +5,7 @@ ghost use Rattle.read_traces.specs.SessionTraces.{AreTraces};
 
 use app_answers::{Session, explain_known, warn};
 use app_explain::{Judged, Seen, SeenStream, explain_answers, joined_name};
-use app_text::Source;
+use app_text::{Source, Text};
 use judge_draw::read_session;
 use judge_session::{Inquiry, computation_of};
 use pd_report::Answer;
@@ -66,23 +66,23 @@ fn sources_of<'a>(
 
 /// Explains the answers of a session by what it says.
 fn put_session<R: RandomSource>(
-    out: &mut Vec<u8>,
+    out: &mut Text,
     rt: &R,
     alloc: Global,
     session: &Session<'_, '_>,
     judged: Judged,
     answers: &[Answer],
-) -> Result<(), AllocError>
+)
     requires { IsJudged session.now }
 {
-    explain_known(out, rt, alloc, session, answers)?;
-    explain_answers(out, answers, judged)?;
-    warn(out, alloc, session)
+    explain_known(out, rt, alloc, session, answers);
+    explain_answers(out, answers, judged);
+    warn(out, session);
 }
 
 /// The same of these traces. If they make no computation, what is unknown is said.
 fn put_traces<R: RandomSource>(
-    out: &mut Vec<u8>,
+    out: &mut Text,
     rt: &R,
     alloc: Global,
     spec: &Spec,
@@ -91,11 +91,12 @@ fn put_traces<R: RandomSource>(
     notes: Option<&EventNotes>,
     judged: Judged,
     answers: &[Answer],
-) -> Result<(), AllocError>
+)
     requires { AreTraces (document_view spec.now).names traces.now }
 {
     let Ok(formed) = computation_of(rt, alloc, spec, traces) else {
-        return explain_answers(out, answers, judged);
+        explain_answers(out, answers, judged);
+        return;
     };
     let session = Session {
         spec,
@@ -104,26 +105,30 @@ fn put_traces<R: RandomSource>(
         sources,
         notes,
     };
-    put_session(out, rt, alloc, &session, judged, answers)
+    put_session(out, rt, alloc, &session, judged, answers);
 }
 
 /// The same of the session of this document and these streams. If it can't be read again, what is unknown is said.
 fn put_read<T: RandomSource + Threads + Wait + Sync>(
-    out: &mut Vec<u8>,
+    out: &mut Text,
     rt: &T,
     alloc: Global,
     seen: Seen<'_>,
     inquiry: Inquiry<'_, '_, '_>,
     judged: Judged,
     answers: &[Answer],
-) -> Result<(), AllocError> {
-    let Some(streams) = bytes_of(alloc, seen.streams)? else {
-        return explain_answers(out, answers, judged);
+) {
+    let Some(Some(streams)) = out.given(bytes_of(alloc, seen.streams)) else {
+        explain_answers(out, answers, judged);
+        return;
     };
     let Ok(read) = read_session(rt, alloc, inquiry, streams) else {
-        return explain_answers(out, answers, judged);
+        explain_answers(out, answers, judged);
+        return;
     };
-    let sources = sources_of(alloc, &read.spec, seen.streams)?;
+    let Some(sources) = out.given(sources_of(alloc, &read.spec, seen.streams)) else {
+        return;
+    };
     put_traces(
         out,
         rt,
@@ -134,28 +139,29 @@ fn put_read<T: RandomSource + Threads + Wait + Sync>(
         seen.notes,
         judged,
         answers,
-    )
+    );
 }
 
 /// Explains the answers of a session that was judged: what can happen, where and why, what can't, and what is unknown;
 /// and what may be green by accident. The session is read again from the bytes that were read of it, and nothing is
 /// judged again.
 pub(crate) fn put_answers<T: RandomSource + Threads + Wait + Sync>(
-    out: &mut Vec<u8>,
+    out: &mut Text,
     rt: &T,
     alloc: Global,
     seen: Seen<'_>,
     judged: Judged,
     answers: &[Answer],
-) -> Result<(), AllocError> {
+) {
     let Some(source) = seen.document else {
-        return explain_answers(out, answers, judged);
+        explain_answers(out, answers, judged);
+        return;
     };
     let document = source.bytes;
     match seen.options {
         Some(options) => {
             let inquiry = Inquiry { document, options };
-            put_read(out, rt, alloc, seen, inquiry, judged, answers)
+            put_read(out, rt, alloc, seen, inquiry, judged, answers);
         }
         None => {
             let options = Options::none(alloc);
@@ -163,7 +169,7 @@ pub(crate) fn put_answers<T: RandomSource + Threads + Wait + Sync>(
                 document,
                 options: &options,
             };
-            put_read(out, rt, alloc, seen, inquiry, judged, answers)
+            put_read(out, rt, alloc, seen, inquiry, judged, answers);
         }
     }
 }

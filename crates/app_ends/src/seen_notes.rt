@@ -6,6 +6,7 @@
 use app_arguments::SessionNames;
 use app_explain::{explain_file, explain_wrong_notes};
 use app_host::{Note, System, World, open_noted};
+use app_text::Text;
 use judge_session::{EngineFault, read_upto};
 use read_notes::{EventNote, EventNotes, NOTES_BYTE_LIMIT};
 use std::alloc::{AllocError, Global};
@@ -22,7 +23,7 @@ fn read_file<Y: System>(
 
 /// The bytes of the file of this name. If it can't be read, or is too long, that is explained.
 fn file_bytes<Y: System>(
-    out: &mut Vec<u8>,
+    out: &mut Text,
     world: &World<'_, Y>,
     name: &str,
 ) -> Result<Option<Vec<u8>>, AllocError> {
@@ -32,10 +33,10 @@ fn file_bytes<Y: System>(
             if bytes.len() <= NOTES_BYTE_LIMIT {
                 return Ok(Some(bytes));
             }
-            explain_file(out, name, "it has more than 67,108,864 bytes")?;
+            explain_file(out, name, "it has more than 67,108,864 bytes");
         }
         Err(EngineFault::Memory) => return Err(AllocError),
-        Err(_) => explain_file(out, name, note.failure().unwrap_or("a read failed"))?,
+        Err(_) => explain_file(out, name, note.failure().unwrap_or("a read failed")),
     }
     Ok(None)
 }
@@ -43,7 +44,7 @@ fn file_bytes<Y: System>(
 /// Reads the files of notes that are named beside a session's files. What a run has read of one is taken; any other one
 /// is opened. Which can't be read, and which lines are no notes, is put to the text of an explanation.
 fn read_notes<Y: System>(
-    out: &mut Vec<u8>,
+    out: &mut Text,
     world: &World<'_, Y>,
     names: &SessionNames<'_>,
 ) -> Result<EventNotes, AllocError> {
@@ -60,7 +61,7 @@ fn read_notes<Y: System>(
             }
         }
     }
-    explain_wrong_notes(out, &names.notes, &notes)?;
+    explain_wrong_notes(out, &names.notes, &notes);
     Ok(notes)
 }
 
@@ -70,7 +71,7 @@ pub struct DrawnNotes {
     /// What was noted.
     pub(crate) notes: EventNotes,
     /// Which files can't be read, and which lines are no notes.
-    pub(crate) unread: Vec<u8>,
+    pub(crate) unread: Text,
 }
 
 impl DrawnNotes {
@@ -89,7 +90,7 @@ pub fn notes_to_draw<Y: System>(
     world: &World<'_, Y>,
     names: &SessionNames<'_>,
 ) -> Result<DrawnNotes, AllocError> {
-    let mut unread = Vec::new(world.alloc);
+    let mut unread = Text::new(world.alloc);
     let notes = read_notes(&mut unread, world, names)?;
     Ok(DrawnNotes { notes, unread })
 }
@@ -97,7 +98,7 @@ pub fn notes_to_draw<Y: System>(
 /// What was noted of the events of the session in files, by the files of notes that are named beside these; nothing if
 /// memory is refused. Which can't be read, and which lines are no notes, is put to the text of an explanation.
 pub(crate) fn notes_of<Y: System>(
-    out: &mut Vec<u8>,
+    out: &mut Text,
     world: &World<'_, Y>,
     names: &SessionNames<'_>,
 ) -> Option<EventNotes> {

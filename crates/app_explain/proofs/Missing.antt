@@ -5,6 +5,7 @@ use Rattle.std.proofs.lemmas.List.{append-nil, flat_map_more}
 use Rattle.std.proofs.lemmas.List.Elements.{filter_more}
 use Rattle.app_explain.specs.declared.peers.Sender.{Sender}
 use Rattle.app_text.specs.Shown.{shown_name}
+use Rattle.app_text.specs.Texts.{Says, Written}
 use Rattle.app_explain.specs.Peers.{before_next, is_sent, missing, missing_names}
 use Rattle.app_text.proofs.Columns.{two_parts}
 
@@ -25,14 +26,13 @@ before_more : (ms : List (List ℕ)) (name : List ℕ) → before_next (ms ++ na
 before_more [] name = refl
 before_more (m ∷ ms) name = refl
 
--- a name of which no stream is sent is put
-pub name_put : (senders : List Sender) (ns : List (List ℕ)) (i : ℕ) (name : List ℕ) → i < length ns
+bytes_put : (senders : List Sender) (ns : List (List ℕ)) (i : ℕ) (name : List ℕ) → i < length ns
     → name ≡ get_or ns i [] → is_sent senders name ≡ false → (initial out mid new said next : List ℕ)
     → said ≡ before_next (missing senders (take i ns))
     → out ≡ initial ++ missing_names (missing senders (take i ns)) → mid ≡ out ++ said → new ≡ mid ++ shown_name name
     → next ≡ codes ", " → (next ≡ before_next (missing senders (take (i + 1) ns)))
     × (new ≡ initial ++ missing_names (missing senders (take (i + 1) ns)))
-name_put senders ns i name below en unsent initial out mid new said next esaid eo em enew enext =
+bytes_put senders ns i name below en unsent initial out mid new said next esaid eo em enew enext =
     let before = missing senders (take i ns) in
     let more : missing senders (take (i + 1) ns) ≡ before ++ name ∷ [] =
     missing_more senders ns i below false (ap (is_sent senders) (sym en) ∙ unsent)
@@ -42,6 +42,29 @@ name_put senders ns i name below en unsent initial out mid new said next esaid e
           ∙ append_assoc initial (missing_names before) (said ++ shown_name name)
           ∙ ap (λ ys. initial ++ ys) (ap (λ ys. missing_names before ++ (ys ++ shown_name name)) esaid
           ∙ sym (named_more before name) ∙ ap missing_names (sym more)),
+    )
+
+-- a name of which no stream is sent is said
+pub name_said : (senders : List Sender) (ns : List (List ℕ)) (i : ℕ) (name : List ℕ) → i < length ns
+    → name ≡ get_or ns i [] → is_sent senders name ≡ false → (initial out mid new : Written) (said next : List ℕ)
+    → said ≡ before_next (missing senders (take i ns))
+    → Says (missing_names (missing senders (take i ns))) initial out → Says said out mid
+    → Says (shown_name name) mid new → next ≡ codes ", "
+    → (next ≡ before_next (missing senders (take (i + 1) ns)))
+    × Says (missing_names (missing senders (take (i + 1) ns))) initial new
+name_said senders ns i name below en unsent initial out mid new said next esaid so sm snew enext =
+    let more : missing senders (take (i + 1) ns) ≡ missing senders (take i ns) ++ name ∷ [] =
+    missing_more senders ns i below false (ap (is_sent senders) (sym en) ∙ unsent)
+    ∙ ap (λ n. missing senders (take i ns) ++ n ∷ []) (sym en) in (
+      enext ∙ sym (ap before_next more ∙ before_more (missing senders (take i ns)) name),
+      λ whole.
+          let last = snew whole in
+          let middle = sm last.0 in
+          let first = so middle.0 in (
+            first.0,
+            (bytes_put senders ns i name below en unsent initial.bytes out.bytes mid.bytes new.bytes said next esaid
+                first.1 middle.1 last.1 enext).1,
+          ),
     )
 
 -- each other one isn't

@@ -1,11 +1,10 @@
 //! Explains what an answer leaves unknown.
 ghost use Rattle.app_explain.specs.Answers.{is_definitely_unknown, is_possibly_unknown, is_too_wide, is_unknown};
 ghost use Rattle.std.specs.List.{list_any};
-ghost use Rattle.std.specs.Prelude.{◌≡◌, false, IfOk, OnOk};
+ghost use Rattle.std.specs.Prelude.{◌≡◌, false};
 
-use app_text::{say, say_name, say_number};
+use app_text::Text;
 use pd_report::{Answer, Definitely, Possibly};
-use std::alloc::AllocError;
 
 /// A whole level, and how many cuts it has.
 #[derive(Clone, Copy)]
@@ -53,65 +52,59 @@ impl Judged {
 }
 
 /// Says how many states the level has on which an answer stays unknown.
-fn say_cuts(out: &mut Vec<u8>, level: u64, judged: Judged) -> Result<(), AllocError> {
+fn say_cuts(out: &mut Text, level: u64, judged: Judged) {
     match (judged.cuts_of(level), judged.width) {
         (Some(cuts), Some(width)) => {
-            say(out, " in all, has ")?;
-            say_number(out, cuts)?;
-            say(out, ", and the width is ")?;
-            say_number(out, width)?;
-            say(out, ".\n")
+            out.say(" in all, has ");
+            out.say_number(cuts);
+            out.say(", and the width is ");
+            out.say_number(width);
+            out.say(".\n");
         }
         (Some(cuts), None) => {
-            say(out, " in all, has ")?;
-            say_number(out, cuts)?;
-            say(out, ", more than the width allows.\n")
+            out.say(" in all, has ");
+            out.say_number(cuts);
+            out.say(", more than the width allows.\n");
         }
         (None, Some(width)) => {
-            say(out, " in all, has more than ")?;
-            say_number(out, width)?;
-            say(out, ", the width.\n")
+            out.say(" in all, has more than ");
+            out.say_number(width);
+            out.say(", the width.\n");
         }
-        (None, None) => say(out, " in all, has more of them than the width allows.\n"),
+        (None, None) => out.say(" in all, has more of them than the width allows.\n"),
     }
 }
 
 /// Says of a question about a predicate at which level it stays unknown.
-fn say_unknown(
-    out: &mut Vec<u8>,
-    name: &str,
-    question: &str,
-    level: u64,
-    judged: Judged,
-) -> Result<(), AllocError> {
-    say(out, "It is unknown whether ")?;
-    say_name(out, name)?;
-    say(out, question)?;
-    say_number(out, level)?;
-    say(out, ", of the states after ")?;
-    say_number(out, level)?;
-    say(out, if level == 1 { " event" } else { " events" })?;
-    say_cuts(out, level, judged)
+fn say_unknown(out: &mut Text, name: &str, question: &str, level: u64, judged: Judged) {
+    out.say("It is unknown whether ");
+    out.say_name(name);
+    out.say(question);
+    out.say_number(level);
+    out.say(", of the states after ");
+    out.say_number(level);
+    out.say(if level == 1 { " event" } else { " events" });
+    say_cuts(out, level, judged);
 }
 
 /// Says of a predicate that it is unknown whether it possibly holds, if so, and whether it is.
-fn say_possibly(out: &mut Vec<u8>, answer: &Answer, judged: Judged) -> Result<bool, AllocError>
-    ensures said { IfOk result (λ said. said ≡ is_possibly_unknown answer.now.possibly) }
-    ensures quiet { IfOk result (λ said. said ≡ false → out.new.items ≡ out.old.items) }
+fn say_possibly(out: &mut Text, answer: &Answer, judged: Judged) -> bool
+    ensures said { result ≡ is_possibly_unknown answer.now.possibly }
+    ensures quiet { result ≡ false → out.new ≡ out.old }
 {
     match &answer.possibly {
         Possibly::Unknown(level) => {
-            say_unknown(out, &answer.name, " possibly holds: level ", *level, judged)?;
-            Ok(true)
+            say_unknown(out, &answer.name, " possibly holds: level ", *level, judged);
+            true
         }
-        Possibly::Yes(_) | Possibly::No => Ok(false),
+        Possibly::Yes(_) | Possibly::No => false,
     }
 }
 
 /// Says of a predicate that it is unknown whether it definitely holds, if so, and whether it is.
-fn say_definitely(out: &mut Vec<u8>, answer: &Answer, judged: Judged) -> Result<bool, AllocError>
-    ensures said { IfOk result (λ said. said ≡ is_definitely_unknown answer.now.definitely) }
-    ensures quiet { IfOk result (λ said. said ≡ false → out.new.items ≡ out.old.items) }
+fn say_definitely(out: &mut Text, answer: &Answer, judged: Judged) -> bool
+    ensures said { result ≡ is_definitely_unknown answer.now.definitely }
+    ensures quiet { result ≡ false → out.new ≡ out.old }
 {
     match &answer.definitely {
         Definitely::Unknown(level) => {
@@ -121,21 +114,21 @@ fn say_definitely(out: &mut Vec<u8>, answer: &Answer, judged: Judged) -> Result<
                 " definitely holds: level ",
                 *level,
                 judged,
-            )?;
-            Ok(true)
+            );
+            true
         }
-        Definitely::Yes(_) | Definitely::No(_) => Ok(false),
+        Definitely::Yes(_) | Definitely::No(_) => false,
     }
 }
 
 /// Says what is unknown of one predicate, and whether something is.
-fn say_answer(out: &mut Vec<u8>, answer: &Answer, judged: Judged) -> Result<bool, AllocError>
-    ensures said { IfOk result (λ said. said ≡ is_unknown answer.now) }
-    ensures quiet { IfOk result (λ said. said ≡ false → out.new.items ≡ out.old.items) }
+fn say_answer(out: &mut Text, answer: &Answer, judged: Judged) -> bool
+    ensures said { result ≡ is_unknown answer.now }
+    ensures quiet { result ≡ false → out.new ≡ out.old }
 {
-    let possibly = say_possibly(out, answer, judged)?;
-    let definitely = say_definitely(out, answer, judged)?;
-    Ok(possibly || definitely)
+    let possibly = say_possibly(out, answer, judged);
+    let definitely = say_definitely(out, answer, judged);
+    possibly || definitely
 }
 
 /// Whether no width is great enough for a level with this many cuts.
@@ -146,50 +139,38 @@ fn is_too_wide(cuts: u64) -> bool
 }
 
 /// Says that a greater width might decide answers that are unknown, unless the widest level is too wide for any.
-fn say_width(out: &mut Vec<u8>, judged: Judged) -> Result<(), AllocError> {
+fn say_width(out: &mut Text, judged: Judged) {
     if is_too_wide(judged.widest.cuts) {
-        return Ok(());
+        return;
     }
     match judged.width {
-        Some(def_format::WIDTH_LIMIT) => Ok(()),
+        Some(def_format::WIDTH_LIMIT) => (),
         Some(_) if judged.takes_options => {
-            say(out, "ask for a greater width, up to --width 65536; or ")
+            out.say("ask for a greater width, up to --width 65536; or ");
         }
-        _ => say(
-            out,
-            "give the document a greater width, up to \"width\":65536; or ",
-        ),
+        _ => out.say("give the document a greater width, up to \"width\":65536; or "),
     }
 }
 
 /// Says what would decide answers that are unknown.
-fn say_ways(out: &mut Vec<u8>, judged: Judged) -> Result<(), AllocError> {
-    say(out, "What to do: ")?;
-    say_width(out, judged)?;
-    say(
-        out,
+fn say_ways(out: &mut Text, judged: Judged) {
+    out.say("What to do: ");
+    say_width(out, judged);
+    out.say(
         "record fewer events that neither send nor receive and set no variable that a predicate names.\n",
-    )
+    );
 }
 
 /// Explains each answer that is unknown: at which level, and which width would decide it, if one would.
-///
-/// # Errors
-/// Out of memory; what was put until then stays.
-pub fn explain_answers(
-    out: &mut Vec<u8>,
-    answers: &[Answer],
-    judged: Judged,
-) -> Result<(), AllocError>
-    ensures { list_any is_unknown answers.now ≡ false → OnOk result (out.new.items ≡ out.old.items) }
+pub fn explain_answers(out: &mut Text, answers: &[Answer], judged: Judged)
+    ensures { list_any is_unknown answers.now ≡ false → out.new ≡ out.old }
 {
     let mut is_unknown = false;
     for answer in answers {
-        let said = say_answer(out, answer, judged)?;
+        let said = say_answer(out, answer, judged);
         is_unknown = is_unknown || said;
     }
     if is_unknown {
-        say_ways(out, judged)?;
+        say_ways(out, judged);
     }
-    Ok(())
 }

@@ -1,20 +1,20 @@
 //! Finds the part of a session document that is refused.
 use super::near_names::say_near;
 use super::words::DocumentWord;
-use app_text::{Source, place_of_name, places_of_name, say, say_name, say_number, show_place};
+use app_text::{Source, Text, place_of_name, places_of_name};
 use def_format::VAR_LIMIT;
 use pd_pred::is_name;
 use serde_json::{Map, Value};
-use std::alloc::{AllocError, Global};
+use std::alloc::Global;
 
 /// The fields of a document.
 const FIELDS: [&str; 4] = ["processes", "predicates", "width", "version"];
 
 /// Shows where this name stands in the document, if that is sure.
-fn show_name(out: &mut Vec<u8>, source: &Source<'_>, name: &str) -> Result<(), AllocError> {
+fn show_name(out: &mut Text, source: &Source<'_>, name: &str) {
     match place_of_name(source.bytes, name) {
-        Some(place) => show_place(out, source, place),
-        None => Ok(()),
+        Some(place) => out.show_place(source, place),
+        None => (),
     }
 }
 
@@ -51,42 +51,31 @@ fn text_of<'a>(item: &'a Value, name: &str) -> &'a str {
 }
 
 /// Says that the document has a field that it may not have.
-fn say_other_field(
-    out: &mut Vec<u8>,
-    alloc: Global,
-    source: &Source<'_>,
-    name: &str,
-) -> Result<(), AllocError> {
-    say(out, "There is a field ")?;
-    say_name(out, name)?;
-    say(out, " that has no meaning here.\n")?;
-    show_name(out, source, name)?;
-    let _ = say_near(out, alloc, name, &FIELDS, "")?;
-    Ok(())
+fn say_other_field(out: &mut Text, alloc: Global, source: &Source<'_>, name: &str) {
+    out.say("There is a field ");
+    out.say_name(name);
+    out.say(" that has no meaning here.\n");
+    show_name(out, source, name);
+    let _ = say_near(out, alloc, name, &FIELDS, "");
 }
 
 /// Says which of the two lists is absent, or is none.
-fn say_list(
-    out: &mut Vec<u8>,
-    source: &Source<'_>,
-    fields: &Map<String, Value>,
-    name: &str,
-) -> Result<bool, AllocError> {
+fn say_list(out: &mut Text, source: &Source<'_>, fields: &Map<String, Value>, name: &str) -> bool {
     match fields.get(name) {
-        Some(Value::Array(_)) => return Ok(false),
+        Some(Value::Array(_)) => return false,
         Some(_) => {
-            say(out, "The field ")?;
-            say_name(out, name)?;
-            say(out, " isn't a list, in square brackets.\n")?;
-            show_name(out, source, name)?;
+            out.say("The field ");
+            out.say_name(name);
+            out.say(" isn't a list, in square brackets.\n");
+            show_name(out, source, name);
         }
         None => {
-            say(out, "It has no field ")?;
-            say_name(out, name)?;
-            say(out, ".\n")?;
+            out.say("It has no field ");
+            out.say_name(name);
+            out.say(".\n");
         }
     }
-    Ok(true)
+    true
 }
 
 /// Whether the value is an object of a text `name` and of one field more, which is a text or an object as said.
@@ -103,102 +92,86 @@ fn is_item(item: &Value, field: &str) -> bool {
 }
 
 /// Says which item of a list doesn't have the form of one.
-fn say_items(
-    out: &mut Vec<u8>,
-    source: &Source<'_>,
-    value: &Value,
-    list: &str,
-    field: &str,
-) -> Result<bool, AllocError> {
+fn say_items(out: &mut Text, source: &Source<'_>, value: &Value, list: &str, field: &str) -> bool {
     for (index, item) in items_of(value, list).iter().enumerate() {
         if !is_item(item, field) {
-            say(out, "Item ")?;
-            say_number(out, (index as u64).saturating_add(1))?;
-            say(out, " of ")?;
-            say_name(out, list)?;
-            say(out, " isn't an object of \"name\", a text, and \"")?;
-            say(out, field)?;
-            say(
-                out,
-                if field == "vars" {
-                    "\", an object, and nothing else.\n"
-                } else {
-                    "\", a text, and nothing else.\n"
-                },
-            )?;
-            show_name(out, source, text_of(item, "name"))?;
-            return Ok(true);
+            out.say("Item ");
+            out.say_number((index as u64).saturating_add(1));
+            out.say(" of ");
+            out.say_name(list);
+            out.say(" isn't an object of \"name\", a text, and \"");
+            out.say(field);
+            out.say(if field == "vars" {
+                "\", an object, and nothing else.\n"
+            } else {
+                "\", a text, and nothing else.\n"
+            });
+            show_name(out, source, text_of(item, "name"));
+            return true;
         }
     }
-    Ok(false)
+    false
 }
 
 /// Says which part of a document has not the form that it should have.
-fn say_shape(
-    out: &mut Vec<u8>,
-    alloc: Global,
-    source: &Source<'_>,
-    value: &Value,
-) -> Result<(), AllocError> {
+fn say_shape(out: &mut Text, alloc: Global, source: &Source<'_>, value: &Value) {
     let Some(fields) = value.as_object() else {
-        return say(out, "It isn't an object, in braces.\n");
+        out.say("It isn't an object, in braces.\n");
+        return;
     };
     if let Some(other) = other_field(fields, &FIELDS) {
-        return say_other_field(out, alloc, source, other);
+        say_other_field(out, alloc, source, other);
+        return;
     }
-    if say_list(out, source, fields, "processes")? || say_list(out, source, fields, "predicates")? {
-        return Ok(());
+    if say_list(out, source, fields, "processes") || say_list(out, source, fields, "predicates") {
+        return;
     }
-    if say_items(out, source, value, "processes", "vars")? {
-        return Ok(());
+    if say_items(out, source, value, "processes", "vars") {
+        return;
     }
-    let _found = say_items(out, source, value, "predicates", "text")?;
-    Ok(())
+    let _found = say_items(out, source, value, "predicates", "text");
 }
 
 /// Says how many items a list has.
-fn say_count(out: &mut Vec<u8>, count: usize, of_what: &str) -> Result<(), AllocError> {
-    say(out, "It has ")?;
-    say_number(out, count as u64)?;
-    say(out, of_what)
+fn say_count(out: &mut Text, count: usize, of_what: &str) {
+    out.say("It has ");
+    out.say_number(count as u64);
+    out.say(of_what);
 }
 
 /// Says which name can't be one, and of what.
-fn say_bad_name(
-    out: &mut Vec<u8>,
-    source: &Source<'_>,
-    what: &str,
-    name: &str,
-) -> Result<(), AllocError> {
-    say(out, "It is the name of ")?;
-    say(out, what)?;
-    say(out, ": ")?;
-    say_name(out, name)?;
-    say(out, ".\n")?;
-    show_name(out, source, name)
+fn say_bad_name(out: &mut Text, source: &Source<'_>, what: &str, name: &str) {
+    out.say("It is the name of ");
+    out.say(what);
+    out.say(": ");
+    out.say_name(name);
+    out.say(".\n");
+    show_name(out, source, name);
 }
 
 /// Says which name of a process, of a variable or of a predicate can't be one, in the order in which they are looked
 /// at.
-fn say_name_fault(out: &mut Vec<u8>, source: &Source<'_>, value: &Value) -> Result<(), AllocError> {
+fn say_name_fault(out: &mut Text, source: &Source<'_>, value: &Value) {
     for process in items_of(value, "processes") {
         let name = text_of(process, "name");
         if !is_name(name.as_bytes()) {
-            return say_bad_name(out, source, "a process", name);
+            say_bad_name(out, source, "a process", name);
+            return;
         }
     }
     for process in items_of(value, "processes") {
         if let Some(name) = bad_var_name(process) {
-            return say_bad_name(out, source, "a variable", name);
+            say_bad_name(out, source, "a variable", name);
+            return;
         }
     }
     for predicate in items_of(value, "predicates") {
         let name = text_of(predicate, "name");
         if !is_name(name.as_bytes()) {
-            return say_bad_name(out, source, "a predicate", name);
+            say_bad_name(out, source, "a predicate", name);
+            return;
         }
     }
-    Ok(())
 }
 
 /// The variables of a process.
@@ -235,76 +208,72 @@ fn name_twice<'a>(items: &'a [Value]) -> Option<&'a str> {
 }
 
 /// Says which name stands twice.
-fn say_twice(out: &mut Vec<u8>, source: &Source<'_>, value: &Value) -> Result<(), AllocError> {
+fn say_twice(out: &mut Text, source: &Source<'_>, value: &Value) {
     let found = match name_twice(items_of(value, "processes")) {
         Some(name) => Some(name),
         None => name_twice(items_of(value, "predicates")),
     };
     let Some(name) = found else {
-        return Ok(());
+        return;
     };
-    say(out, "It is the name ")?;
-    say_name(out, name)?;
-    say(out, ".\n")?;
+    out.say("It is the name ");
+    out.say_name(name);
+    out.say(".\n");
     match places_of_name(source.bytes, name) {
-        (2, second) => show_place(out, source, second),
-        _ => Ok(()),
+        (2, second) => out.show_place(source, second),
+        _ => (),
     }
 }
 
 /// Says which variable of a process can't be as it is given.
-fn say_vars(out: &mut Vec<u8>, source: &Source<'_>, value: &Value) -> Result<(), AllocError> {
+fn say_vars(out: &mut Text, source: &Source<'_>, value: &Value) {
     for process in items_of(value, "processes") {
         if let Some(vars) = vars_of(process) {
-            if say_vars_of(out, source, text_of(process, "name"), vars)? {
-                return Ok(());
+            if say_vars_of(out, source, text_of(process, "name"), vars) {
+                return;
             }
         }
     }
-    Ok(())
 }
 
 /// Says what is wrong with the variables of a process, and whether something is.
 fn say_vars_of(
-    out: &mut Vec<u8>,
+    out: &mut Text,
     source: &Source<'_>,
     process: &str,
     vars: &Map<String, Value>,
-) -> Result<bool, AllocError> {
+) -> bool {
     if vars.len() > VAR_LIMIT {
-        say(out, "Process ")?;
-        say_name(out, process)?;
-        say(out, " has ")?;
-        say_number(out, vars.len() as u64)?;
-        say(out, " variables.\n")?;
-        return Ok(true);
+        out.say("Process ");
+        out.say_name(process);
+        out.say(" has ");
+        out.say_number(vars.len() as u64);
+        out.say(" variables.\n");
+        return true;
     }
     for (name, given) in vars.iter() {
         if given.as_i64().is_none() {
-            say(out, "The initial value of the variable ")?;
-            say_name(out, name.as_str())?;
-            say(out, " of process ")?;
-            say_name(out, process)?;
-            say(out, " isn't a whole number.\n")?;
-            show_name(out, source, name.as_str())?;
-            return Ok(true);
+            out.say("The initial value of the variable ");
+            out.say_name(name.as_str());
+            out.say(" of process ");
+            out.say_name(process);
+            out.say(" isn't a whole number.\n");
+            show_name(out, source, name.as_str());
+            return true;
         }
     }
-    Ok(false)
+    false
 }
 
 /// Says which part of a document has the fault of this word, and shows where it stands, if that is
 /// sure.
-///
-/// # Errors
-/// Out of memory.
 pub(crate) fn say_detail(
-    out: &mut Vec<u8>,
+    out: &mut Text,
     alloc: Global,
     source: &Source<'_>,
     value: &Value,
     word: DocumentWord,
-) -> Result<(), AllocError> {
+) {
     match word {
         DocumentWord::Shape => say_shape(out, alloc, source, value),
         DocumentWord::Processes => say_count(
@@ -322,6 +291,6 @@ pub(crate) fn say_detail(
         ),
         DocumentWord::Width => show_name(out, source, "width"),
         DocumentWord::Version => show_name(out, source, "version"),
-        DocumentWord::Long | DocumentWord::Json => Ok(()),
+        DocumentWord::Long | DocumentWord::Json => (),
     }
 }

@@ -4,7 +4,7 @@ use super::file_kinds::{kind_of, said_of};
 use super::json_faults::json_place;
 use super::streams::joined_name;
 use super::words::DocumentWord;
-use app_text::{Source, line_at, say, say_advice, say_name, show_numbered};
+use app_text::{Source, Text, line_at};
 use def_format::DOCUMENT_BYTE_LIMIT;
 use serde_json::Value;
 use std::alloc::{AllocError, Global};
@@ -82,28 +82,26 @@ before it."
 }
 
 /// Explains why a session document is refused by this word, where only that is known.
-///
-/// # Errors
-/// Out of memory; what was put until then stays.
-pub fn explain_document_word(out: &mut Vec<u8>, word: DocumentWord) -> Result<(), AllocError> {
-    say(out, meaning(word))?;
-    say(out, "\n")?;
-    say_advice(out, expected(word), advice(word))
+pub fn explain_document_word(out: &mut Text, word: DocumentWord) {
+    out.say(meaning(word));
+    out.say("\n");
+    out.say_advice(expected(word), advice(word));
 }
 
 /// Shows where the document stops being a JSON text.
-fn show_json(out: &mut Vec<u8>, alloc: Global, source: &Source<'_>) -> Result<(), AllocError> {
-    let Some(found) = json_place(alloc, source.bytes)? else {
-        return Ok(());
+fn show_json(out: &mut Text, alloc: Global, source: &Source<'_>) {
+    let Some(Some(found)) = out.given(json_place(alloc, source.bytes)) else {
+        return;
     };
     if source.bytes.is_empty() {
-        return say(out, "It is empty.\n");
+        out.say("It is empty.\n");
+        return;
     }
     if found.at_end {
-        say(out, "It ends before it is whole.\n")?;
+        out.say("It ends before it is whole.\n");
     }
     let line = line_at(source.bytes, found.line);
-    show_numbered(out, source, found.line, line, Some(found.place))
+    out.show_numbered(source, found.line, line, Some(found.place));
 }
 
 /// Whether these bytes are a session document, or were meant as one: a JSON object with a field of processes.
@@ -125,53 +123,39 @@ pub(crate) fn is_document(alloc: Global, bytes: &[u8]) -> Result<bool, AllocErro
 }
 
 /// Says what a file is that isn't a session document, and what to do, if that is clear. It gives whether it is.
-fn say_other_file(
-    out: &mut Vec<u8>,
-    alloc: Global,
-    bytes: &[u8],
-    word: DocumentWord,
-) -> Result<bool, AllocError> {
+fn say_other_file(out: &mut Text, alloc: Global, bytes: &[u8], word: DocumentWord) -> bool {
     if word != DocumentWord::Json && word != DocumentWord::Shape {
-        return Ok(false);
+        return false;
     }
     if let Some(kind) = kind_of(bytes) {
-        say(out, said_of(kind))?;
-        return Ok(true);
+        out.say(said_of(kind));
+        return true;
     }
-    let Some(process) = joined_name(alloc, bytes)? else {
-        return Ok(false);
+    let Some(Some(process)) = out.given(joined_name(alloc, bytes)) else {
+        return false;
     };
-    say(out, "It is the stream of process ")?;
-    say_name(out, &process)?;
-    say(
-        out,
+    out.say("It is the stream of process ");
+    out.say_name(&process);
+    out.say(
         ", and no session document.\nWhat to do: give the document first, and then the streams.\n",
-    )?;
-    Ok(true)
+    );
+    true
 }
 
 /// Explains why this session document is refused by this word: what it means, where in the document the fault is, as
 /// far as that is sure, what is expected there, and what to do.
-///
-/// # Errors
-/// Out of memory; what was put until then stays.
-pub fn explain_document(
-    out: &mut Vec<u8>,
-    alloc: Global,
-    source: &Source<'_>,
-    word: DocumentWord,
-) -> Result<(), AllocError> {
-    say(out, meaning(word))?;
-    say(out, "\n")?;
+pub fn explain_document(out: &mut Text, alloc: Global, source: &Source<'_>, word: DocumentWord) {
+    out.say(meaning(word));
+    out.say("\n");
     match word {
-        DocumentWord::Json => show_json(out, alloc, source)?,
+        DocumentWord::Json => show_json(out, alloc, source),
         _ => match Value::from_slice(alloc, source.bytes) {
-            Ok(value) => say_detail(out, alloc, source, &value, word)?,
+            Ok(value) => say_detail(out, alloc, source, &value, word),
             Err(_) => {}
         },
     }
-    if say_other_file(out, alloc, source.bytes, word)? {
-        return Ok(());
+    if say_other_file(out, alloc, source.bytes, word) {
+        return;
     }
-    say_advice(out, expected(word), advice(word))
+    out.say_advice(expected(word), advice(word));
 }

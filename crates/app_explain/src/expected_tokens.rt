@@ -1,5 +1,5 @@
 //! Finds what may stand at a place of a predicate's text, by trying it.
-use app_text::say;
+use app_text::Text;
 use pd_pred::{Names, Pred, PredErrorKind};
 use std::alloc::{AllocError, Global};
 
@@ -50,9 +50,9 @@ pub(crate) fn may_follow(
 }
 
 /// Puts a part of a list, after a comma if it isn't the first.
-fn say_part(out: &mut Vec<u8>, is_first: bool, part: &str) -> Result<(), AllocError> {
-    say(out, if is_first { "Expected here: " } else { ", " })?;
-    say(out, part)
+fn say_part(out: &mut Text, is_first: bool, part: &str) {
+    out.say(if is_first { "Expected here: " } else { ", " });
+    out.say(part);
 }
 
 /// Whether the last byte that is no space or tab is a dot.
@@ -66,39 +66,36 @@ fn ends_with_dot(text: &str) -> bool {
 }
 
 /// Says which tokens may stand at a place of a predicate's text, if the text before it begins a predicate.
-///
-/// # Errors
-/// Out of memory.
 pub(crate) fn say_expected_tokens(
-    out: &mut Vec<u8>,
+    out: &mut Text,
     alloc: Global,
     names: &Names,
     text: &str,
     place: usize,
-) -> Result<(), AllocError> {
+) {
     let begin = text.as_bytes().get(..place).unwrap_or(text.as_bytes());
     let Ok(begin) = str::from_utf8(begin) else {
-        return Ok(());
+        return;
     };
     let mut is_first = true;
     for (token, said) in TRIED {
-        if may_follow(alloc, names, begin, token)? {
-            say_part(out, is_first, said)?;
+        if out.given(may_follow(alloc, names, begin, token)) == Some(true) {
+            say_part(out, is_first, said);
             is_first = false;
         }
     }
-    if may_follow(alloc, names, begin, "a")? {
+    if out.given(may_follow(alloc, names, begin, "a")) == Some(true) {
         let named = if ends_with_dot(begin) {
             "the name of a variable"
         } else {
             "a variable with its process, as a.x"
         };
-        say_part(out, is_first, named)?;
+        say_part(out, is_first, named);
         is_first = false;
     }
     if Pred::parse(alloc, names, begin).is_ok() {
-        say_part(out, is_first, "the end")?;
+        say_part(out, is_first, "the end");
         is_first = false;
     }
-    say(out, if is_first { "" } else { ".\n" })
+    out.say(if is_first { "" } else { ".\n" });
 }

@@ -2,8 +2,7 @@
 use super::known_names::name_at;
 use super::messages::EventName;
 use super::noted::{NotedEvents, put_noted_event};
-use app_text::{Source, cut_line, line_at, say, say_shown, show_numbered};
-use std::alloc::AllocError;
+use app_text::{Source, Text, cut_line, line_at};
 
 /// In which ways the evidence of a report may be bad: the cut for a *possibly yes*, or the path for a *definitely no*.
 fn reason(is_cut: bool) -> &'static str {
@@ -43,43 +42,42 @@ fn without_end<'a>(line: &'a [u8], end: &[u8]) -> Option<&'a [u8]> {
 }
 
 /// Says what was noted of the last event of each process at a cut, which has this text, as `2,1`.
-fn say_cut(out: &mut Vec<u8>, events: NotedEvents<'_>, cut: &[u8]) -> Result<(), AllocError> {
+fn say_cut(out: &mut Text, events: NotedEvents<'_>, cut: &[u8]) {
     for (place, text) in cut.split(|byte| *byte == b',').enumerate() {
         if let Some(number) = number_after(text, b"") {
             let process = name_at(events.names, place);
-            put_noted_event(out, events.notes, EventName { process, number })?;
+            put_noted_event(out, events.notes, EventName { process, number });
         }
     }
-    Ok(())
 }
 
 /// Explains that the evidence for an answer about a predicate is bad, and shows it.
 fn say_evidence(
-    out: &mut Vec<u8>,
+    out: &mut Text,
     report: &Source<'_>,
     name: &[u8],
     is_cut: bool,
     events: Option<NotedEvents<'_>>,
-) -> Result<(), AllocError> {
+) {
     let question: &[u8] = if is_cut {
         b" possibly "
     } else {
         b" definitely "
     };
-    say(out, "What the report gives as evidence of `")?;
-    say_shown(out, name)?;
-    say(out, "` is none")?;
-    say(out, reason(is_cut))?;
+    out.say("What the report gives as evidence of `");
+    out.say_shown(name);
+    out.say("` is none");
+    out.say(reason(is_cut));
     match line_with(report.bytes, name, question) {
         Some(number) => {
             let line = line_at(report.bytes, number);
-            show_numbered(out, report, number, line, None)?;
+            out.show_numbered(report, number, line, None);
             match (events, cut_in(line, name)) {
                 (Some(events), Some(cut)) => say_cut(out, events, cut),
-                _ => Ok(()),
+                _ => (),
             }
         }
-        None => Ok(()),
+        None => (),
     }
 }
 
@@ -111,87 +109,72 @@ fn number_after(line: &[u8], before: &[u8]) -> Option<u64> {
 }
 
 /// Explains one line of what a check finds.
-fn say_line(
-    out: &mut Vec<u8>,
-    report: &Source<'_>,
-    line: &[u8],
-    events: Option<NotedEvents<'_>>,
-) -> Result<(), AllocError> {
+fn say_line(out: &mut Text, report: &Source<'_>, line: &[u8], events: Option<NotedEvents<'_>>) {
     if let Some(number) = number_after(line, b"report line ") {
-        say(out, "From this line on the file isn't a report.\n")?;
+        out.say("From this line on the file isn't a report.\n");
         let shown = line_at(report.bytes, number);
-        return show_numbered(out, report, number, shown, None);
+        out.show_numbered(report, number, shown, None);
+        return;
     }
     if line == b"refused bad".as_slice() {
-        return say(
-            out,
+        out.say(
             "The session isn't refused as the report says, or it is refused and the report says otherwise: judge it to \
 see what it comes to.\n",
         );
+        return;
     }
     if line == b"session bad".as_slice() {
-        say(
-            out,
+        out.say(
             "The session has other numbers of processes, events or messages than the report says.\n",
-        )?;
-        return show_numbered(out, report, 1, line_at(report.bytes, 1), None);
+        );
+        out.show_numbered(report, 1, line_at(report.bytes, 1), None);
+        return;
     }
     if line == b"names bad".as_slice() {
-        return say(
-            out,
+        out.say(
             "The report doesn't answer for the predicates of the document, each once and in their order.\n",
         );
+        return;
     }
     if let Some(name) = without_end(line, b" possibly bad") {
-        return say_evidence(out, report, name, true, events);
+        say_evidence(out, report, name, true, events);
+        return;
     }
     match without_end(line, b" definitely bad") {
         Some(name) => say_evidence(out, report, name, false, events),
-        None => Ok(()),
+        None => (),
     }
 }
 
 /// Says that what a check finds can't be explained, since not all that it checks is known.
-///
-/// # Errors
-/// Out of memory; what was put until then stays.
-pub fn explain_unread_finding(out: &mut Vec<u8>) -> Result<(), AllocError> {
-    say(
-        out,
+pub fn explain_unread_finding(out: &mut Text) {
+    out.say(
         "What is bad isn't explained, since a stream couldn't be read to its end, or memory ran out.\n",
-    )
+    );
 }
 
 /// Says what a report has to be for a picture to be drawn by it.
-///
-/// # Errors
-/// Out of memory; what was put until then stays.
-pub fn explain_no_picture(out: &mut Vec<u8>) -> Result<(), AllocError> {
-    say(
-        out,
+pub fn explain_no_picture(out: &mut Text) {
+    out.say(
         "A picture needs a report of this very session, and good evidence: `monitor check` explains what is bad.\n",
-    )
+    );
 }
 
 /// Explains each line of what a check finds of this report that says that something is bad. Of a bad cut it says what
 /// was noted of its events, if that is known.
-///
-/// # Errors
-/// Out of memory; what was put until then stays.
 pub fn explain_finding(
-    out: &mut Vec<u8>,
+    out: &mut Text,
     report: &Source<'_>,
     found: &[u8],
     events: Option<NotedEvents<'_>>,
-) -> Result<(), AllocError> {
+) {
     let mut rest = found;
     for _line in 0..found.len() {
         let (line, after) = cut_line(rest);
-        say_line(out, report, line, events)?;
+        say_line(out, report, line, events);
         let Some(after) = after else {
-            return Ok(());
+            return;
         };
         rest = after;
     }
-    Ok(())
 }

@@ -2,9 +2,8 @@
 ghost use Rattle.app_explain.specs.Peers.{process_names};
 ghost use Rattle.std.specs.Prelude.{◌≡◌, [], slice_index_or};
 
-use app_text::{say, say_name};
+use app_text::Text;
 use pd_pred::Names;
-use std::alloc::AllocError;
 
 /// The name of a process, which is counted from 0; it is empty if there is no such process.
 pub(crate) fn name_at(names: &Names, process: usize) -> &str
@@ -27,29 +26,21 @@ fn vars_at(names: &Names, process: usize) -> &[String] {
 }
 
 /// Says which processes there are.
-///
-/// # Errors
-/// Out of memory.
-pub(crate) fn say_processes(out: &mut Vec<u8>, names: &Names) -> Result<(), AllocError> {
+pub(crate) fn say_processes(out: &mut Text, names: &Names) {
     for process in 0..names.processes() {
-        say(out, if process == 0 { "" } else { ", " })?;
-        say_name(out, names.name(process))?;
+        out.say(if process == 0 { "" } else { ", " });
+        out.say_name(names.name(process));
     }
-    Ok(())
 }
 
 /// Says which variables a process has.
-///
-/// # Errors
-/// Out of memory.
-pub(crate) fn say_vars(out: &mut Vec<u8>, names: &Names, process: usize) -> Result<(), AllocError> {
+pub(crate) fn say_vars(out: &mut Text, names: &Names, process: usize) {
     let vars = vars_at(names, process);
     for (index, var) in vars.iter().enumerate() {
-        say(out, if index == 0 { "" } else { ", " })?;
-        say_name(out, var.as_str())?;
+        out.say(if index == 0 { "" } else { ", " });
+        out.say_name(var.as_str());
     }
     if vars.is_empty() {
-        say(out, "none")?;
+        out.say("none");
     }
-    Ok(())
 }

@@ -5,10 +5,7 @@ ghost use Rattle.std.specs.Prelude.{◌≡◌, string_bytes, IfOk};
 
 use super::fields::text_in_line;
 use super::words::MessageWord;
-use app_text::{
-    Source, next_record, record_after, say, say_advice, say_name, say_number, say_shown,
-    show_numbered,
-};
+use app_text::{Source, Text, next_record, record_after};
 use std::alloc::{AllocError, Global};
 
 /// What a word for messages that don't match means, of an event.
@@ -80,48 +77,31 @@ pub struct EventName<'a> {
 }
 
 /// Says which event it is.
-fn say_event(out: &mut Vec<u8>, event: EventName<'_>) -> Result<(), AllocError> {
-    say(out, "Event ")?;
-    say_number(out, event.number)?;
-    say(out, " of process ")?;
-    say_name(out, event.process)
+fn say_event(out: &mut Text, event: EventName<'_>) {
+    out.say("Event ");
+    out.say_number(event.number);
+    out.say(" of process ");
+    out.say_name(event.process);
 }
 
 /// Explains why an event's message is refused: what it means. What is expected is said by `advise_messages`.
-///
-/// # Errors
-/// Out of memory; what was put until then stays.
-pub fn explain_message(
-    out: &mut Vec<u8>,
-    event: EventName<'_>,
-    word: MessageWord,
-) -> Result<(), AllocError> {
-    say_event(out, event)?;
-    say(out, " ")?;
-    say(out, meaning(word))?;
-    say(out, "\n")
+pub fn explain_message(out: &mut Text, event: EventName<'_>, word: MessageWord) {
+    say_event(out, event);
+    out.say(" ");
+    out.say(meaning(word));
+    out.say("\n");
 }
 
 /// Says what is expected of messages in place of what has this fault, and what to do.
-///
-/// # Errors
-/// Out of memory; what was put until then stays.
-pub fn advise_messages(out: &mut Vec<u8>, word: MessageWord) -> Result<(), AllocError> {
-    say_advice(out, expected(word), advice(word))
+pub fn advise_messages(out: &mut Text, word: MessageWord) {
+    out.say_advice(expected(word), advice(word));
 }
 
 /// Shows the line of an event in its stream.
-///
-/// # Errors
-/// Out of memory; what was put until then stays.
-pub fn show_event(
-    out: &mut Vec<u8>,
-    source: &Source<'_>,
-    event: EventName<'_>,
-) -> Result<(), AllocError> {
+pub fn show_event(out: &mut Text, source: &Source<'_>, event: EventName<'_>) {
     match record_after(source.bytes, event.number) {
-        Some(record) => show_numbered(out, source, record.line, record.bytes, None),
-        None => Ok(()),
+        Some(record) => out.show_numbered(source, record.line, record.bytes, None),
+        None => (),
     }
 }
 
@@ -136,32 +116,35 @@ pub struct Others<'a> {
 
 /// Shows the first event of a stream that sends or receives the message with this id, as the field says, and isn't the
 /// event with this number. It gives the number of the one that it shows.
-///
-/// # Errors
-/// Out of memory; what was put until then stays.
 pub fn show_other(
-    out: &mut Vec<u8>,
+    out: &mut Text,
     alloc: Global,
     source: &Source<'_>,
     others: Others<'_>,
     id: &str,
     but: u64,
-) -> Result<Option<u64>, AllocError> {
+) -> Option<u64> {
     let mut rest = source.bytes;
     let mut line = 0u64;
     for number in 0..u64::MAX {
         let Some(record) = next_record(rest, line) else {
-            return Ok(None);
+            return None;
         };
         rest = record.after;
         line = record.line;
-        if number > 0 && number != but && has_id(alloc, record.bytes, others.field, id)? {
-            say(out, others.said)?;
-            show_numbered(out, source, line, record.bytes, None)?;
-            return Ok(Some(number));
+        if number == 0 || number == but {
+            continue;
+        }
+        let Some(is_other) = out.given(has_id(alloc, record.bytes, others.field, id)) else {
+            return None;
+        };
+        if is_other {
+            out.say(others.said);
+            out.show_numbered(source, line, record.bytes, None);
+            return Some(number);
         }
     }
-    Ok(None)
+    None
 }
 
 /// Whether a record sends or receives, as the field says, the message with this id.
@@ -175,103 +158,76 @@ fn has_id(alloc: Global, line: &[u8], field: &str, id: &str) -> Result<bool, All
 }
 
 /// Says what a causal cycle is. Its events are shown by `show_step`.
-///
-/// # Errors
-/// Out of memory; what was put until then stays.
-pub fn explain_cycle(out: &mut Vec<u8>) -> Result<(), AllocError> {
-    say(
-        out,
+pub fn explain_cycle(out: &mut Text) {
+    out.say(
         "Each of these events receives a message that the process of the next one sends after that next one, and the \
 last one a message that the process of the first one sends after the first. So each of them would have happened before \
 itself.\n",
-    )
+    );
 }
 
 /// Shows an event of a causal cycle with its message, if it has one.
-///
-/// # Errors
-/// Out of memory; what was put until then stays.
-pub fn show_step(
-    out: &mut Vec<u8>,
-    alloc: Global,
-    source: Option<&Source<'_>>,
-    event: EventName<'_>,
-) -> Result<(), AllocError> {
-    say_event(out, event)?;
+pub fn show_step(out: &mut Text, alloc: Global, source: Option<&Source<'_>>, event: EventName<'_>) {
+    say_event(out, event);
     let Some(source) = source else {
-        return say(out, ".\n");
+        out.say(".\n");
+        return;
     };
-    let id = message_of(alloc, source.bytes, event.number)?;
+    let Some(id) = out.given(message_of(alloc, source.bytes, event.number)) else {
+        return;
+    };
     if let Some(id) = id {
-        say(out, " receives the message ")?;
-        say_name(out, &id)?;
+        out.say(" receives the message ");
+        out.say_name(&id);
     }
-    say(out, ". ")?;
-    show_event(out, source, event)
+    out.say(". ");
+    show_event(out, source, event);
 }
 
 /// Says what to do about a causal cycle.
-///
-/// # Errors
-/// Out of memory; what was put until then stays.
-pub fn advise_cycle(out: &mut Vec<u8>) -> Result<(), AllocError> {
-    say_advice(
-        out,
+pub fn advise_cycle(out: &mut Text) {
+    out.say_advice(
         "in each stream the events in the order in which they happened, a send before the message leaves and a \
 receipt after it has come.",
         "look at the streams of these events for lines in the wrong order: two threads that write without one lock, a \
 send that is recorded too late, or an id that is used twice.",
-    )
+    );
 }
 
 /// Explains that no stream is one of this process.
-///
-/// # Errors
-/// Out of memory; what was put until then stays.
-pub fn explain_absent(out: &mut Vec<u8>, process: &str) -> Result<(), AllocError> {
-    say(out, "No stream is that of process ")?;
-    say_name(out, process)?;
-    say(out, ", which the session document names.\n")
+pub fn explain_absent(out: &mut Text, process: &str) {
+    out.say("No stream is that of process ");
+    out.say_name(process);
+    out.say(", which the session document names.\n");
 }
 
 /// Says whose stream a file is.
-///
-/// # Errors
-/// Out of memory; what was put until then stays.
-pub fn show_join(out: &mut Vec<u8>, file: &str, process: Option<&str>) -> Result<(), AllocError> {
-    say(out, "    ")?;
-    say_shown(out, file.as_bytes())?;
+pub fn show_join(out: &mut Text, file: &str, process: Option<&str>) {
+    out.say("    ");
+    out.say_shown(file.as_bytes());
     match process {
         Some(process) => {
-            say(out, " is the stream of ")?;
-            say_name(out, process)?;
+            out.say(" is the stream of ");
+            out.say_name(process);
         }
-        None => say(out, " doesn't say whose stream it is")?,
+        None => out.say(" doesn't say whose stream it is"),
     }
-    say(out, "\n")
+    out.say("\n");
 }
 
 /// Says what to do about a stream that is absent.
-///
-/// # Errors
-/// Out of memory; what was put until then stays.
-pub fn advise_absent(out: &mut Vec<u8>) -> Result<(), AllocError> {
-    say_advice(
-        out,
+pub fn advise_absent(out: &mut Text) {
+    out.say_advice(
         "a stream for each process of the document, one that recorded nothing too: its join and its end line.",
         "give the stream of that process too, or take the process out of the document.",
-    )
+    );
 }
 
 /// Explains that there are too many streams.
-///
-/// # Errors
-/// Out of memory; what was put until then stays.
-pub fn explain_streams(out: &mut Vec<u8>) -> Result<(), AllocError> {
-    say(out, "There are more than 32 streams.\n")?;
-    say_advice(
-        out,
+pub fn explain_streams(out: &mut Text) {
+    out.say("There are more than 32 streams.\n");
+    out.say_advice(
         "one stream for each process, of which a session has at most 16.",
         "name the files of one run alone.",
-    )
+    );
 }

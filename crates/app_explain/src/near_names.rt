@@ -1,6 +1,6 @@
 //! Says which name is near to one that there isn't.
 use super::nearest::place_of_nearest;
-use app_text::{say, say_shown};
+use app_text::Text;
 use pd_pred::Names;
 use std::alloc::{AllocError, Global};
 
@@ -39,48 +39,44 @@ pub(crate) fn var_texts(
 
 /// Says which of these names is nearest to the given one, after what stands before it, if one is near. It gives whether
 /// one is.
-///
-/// # Errors
-/// Out of memory; what was put until then stays.
 pub(crate) fn say_near(
-    out: &mut Vec<u8>,
+    out: &mut Text,
     alloc: Global,
     given: &str,
     names: &[&str],
     before: &str,
-) -> Result<bool, AllocError> {
+) -> bool {
     if given.len() > LENGTH_LIMIT {
-        return Ok(false);
+        return false;
     }
-    let found = place_of_nearest(alloc, given, names)?;
-    let Some(name) = found.and_then(|place| names.get(place)) else {
-        return Ok(false);
+    let Some(found) = out.given(place_of_nearest(alloc, given, names)) else {
+        return false;
     };
-    say(out, "Did you mean `")?;
-    say_shown(out, before.as_bytes())?;
-    say_shown(out, name.as_bytes())?;
-    say(out, "`?\n")?;
-    Ok(true)
+    let Some(name) = found.and_then(|place| names.get(place)) else {
+        return false;
+    };
+    out.say("Did you mean `");
+    out.say_shown(before.as_bytes());
+    out.say_shown(name.as_bytes());
+    out.say("`?\n");
+    true
 }
 
 /// Says of each process that has a variable of this name how it is written. It gives whether one has.
-///
-/// # Errors
-/// Out of memory; what was put until then stays.
-pub(crate) fn say_owners(out: &mut Vec<u8>, names: &Names, var: &str) -> Result<bool, AllocError> {
+pub(crate) fn say_owners(out: &mut Text, names: &Names, var: &str) -> bool {
     let mut before = "Did you mean `";
     let mut is_found = false;
     for process in 0..names.processes() {
         if names.find_var(process, var).is_some() {
-            say(out, before)?;
-            say_shown(out, names.name(process).as_bytes())?;
-            say(out, ".")?;
-            say_shown(out, var.as_bytes())?;
-            say(out, "`")?;
+            out.say(before);
+            out.say_shown(names.name(process).as_bytes());
+            out.say(".");
+            out.say_shown(var.as_bytes());
+            out.say("`");
             before = ", or `";
             is_found = true;
         }
     }
-    say(out, if is_found { "?\n" } else { "" })?;
-    Ok(is_found)
+    out.say(if is_found { "?\n" } else { "" });
+    is_found
 }

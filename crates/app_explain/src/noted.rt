@@ -1,10 +1,9 @@
 //! Explains what was noted of events, and which lines of notes are none.
 
 use super::messages::EventName;
-use app_text::{next_record, say, say_name, say_note, say_number, say_shown};
+use app_text::{Text, next_record};
 use pd_pred::Names;
 use read_notes::EventNotes;
-use std::alloc::AllocError;
 
 /// The names of the processes of a session, and what was noted of their events.
 #[derive(Clone, Copy)]
@@ -16,36 +15,28 @@ pub struct NotedEvents<'a> {
 }
 
 /// Says what was noted of an event that was just shown, if that is known.
-pub(crate) fn put_note(
-    out: &mut Vec<u8>,
-    notes: Option<&EventNotes>,
-    event: EventName<'_>,
-) -> Result<(), AllocError> {
+pub(crate) fn put_note(out: &mut Text, notes: Option<&EventNotes>, event: EventName<'_>) {
     match notes.and_then(|notes| notes.of(event.process, event.number)) {
         Some(noted) => {
-            say(out, "Its note: ")?;
-            say_note(out, &noted)?;
-            say(out, ".\n")
+            out.say("Its note: ");
+            out.say_note(&noted);
+            out.say(".\n");
         }
-        None => Ok(()),
+        None => (),
     }
 }
 
 /// Says which event it is, and what was noted of it, if that is known.
-pub(crate) fn put_noted_event(
-    out: &mut Vec<u8>,
-    notes: &EventNotes,
-    event: EventName<'_>,
-) -> Result<(), AllocError> {
+pub(crate) fn put_noted_event(out: &mut Text, notes: &EventNotes, event: EventName<'_>) {
     if notes.of(event.process, event.number).is_none() {
-        return Ok(());
+        return;
     }
-    say(out, "Event ")?;
-    say_number(out, event.number)?;
-    say(out, " of process ")?;
-    say_name(out, event.process)?;
-    say(out, ". ")?;
-    put_note(out, Some(notes), event)
+    out.say("Event ");
+    out.say_number(event.number);
+    out.say(" of process ");
+    out.say_name(event.process);
+    out.say(". ");
+    put_note(out, Some(notes), event);
 }
 
 /// How many records stand before the line with this number.
@@ -67,54 +58,44 @@ fn records_before(bytes: &[u8], line: u64) -> u64 {
 /// Says what was noted of the last event before the line with this number, in the stream of this process, if that is
 /// known.
 pub(crate) fn put_last_note(
-    out: &mut Vec<u8>,
+    out: &mut Text,
     notes: Option<&EventNotes>,
     process: &str,
     bytes: &[u8],
     line: u64,
-) -> Result<(), AllocError> {
+) {
     let Some(notes) = notes else {
-        return Ok(());
+        return;
     };
     let number = records_before(bytes, line).saturating_sub(1);
     if notes.of(process, number).is_none() {
-        return Ok(());
+        return;
     }
-    say(out, "The last event before the fault is event ")?;
-    say_number(out, number)?;
-    say(out, ". ")?;
-    put_note(out, Some(notes), EventName { process, number })
+    out.say("The last event before the fault is event ");
+    out.say_number(number);
+    out.say(". ");
+    put_note(out, Some(notes), EventName { process, number });
 }
 
 /// Says how many lines of the notes in the files of these names are none, and of the first one where it stands and why.
-///
-/// # Errors
-/// Out of memory; what was put until then stays.
-pub fn explain_wrong_notes(
-    out: &mut Vec<u8>,
-    names: &[&str],
-    notes: &EventNotes,
-) -> Result<(), AllocError> {
+pub fn explain_wrong_notes(out: &mut Text, names: &[&str], notes: &EventNotes) {
     let Some(first) = notes.first_wrong() else {
-        return Ok(());
+        return;
     };
     let count = notes.wrong_count();
-    say_number(out, count)?;
-    say(
-        out,
-        if count == 1 {
-            " line of the notes is no note: "
-        } else {
-            " lines of the notes are no notes. The first of them: "
-        },
-    )?;
+    out.say_number(count);
+    out.say(if count == 1 {
+        " line of the notes is no note: "
+    } else {
+        " lines of the notes are no notes. The first of them: "
+    });
     if let Some(name) = names.get(first.file) {
-        say_shown(out, name.as_bytes())?;
-        say(out, ", ")?;
+        out.say_shown(name.as_bytes());
+        out.say(", ");
     }
-    say(out, "line ")?;
-    say_number(out, first.line)?;
-    say(out, ": ")?;
-    say(out, first.why)?;
-    say(out, ".\n")
+    out.say("line ");
+    out.say_number(first.line);
+    out.say(": ");
+    out.say(first.why);
+    out.say(".\n");
 }

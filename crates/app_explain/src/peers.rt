@@ -1,16 +1,17 @@
 //! Explains what concerns those who send the streams of a server.
 ghost use Rattle.app_explain.specs.Peers.{is_earlier, is_sent, missing, missing_text, process_names};
+ghost use Rattle.app_text.specs.Texts.{Says};
 ghost use Rattle.std.specs.List.{list_any};
-ghost use Rattle.std.specs.Prelude.{◌≡◌, ◌++◌, not, OnOk};
+ghost use Rattle.std.specs.Prelude.{◌≡◌, not};
 
 use super::known_names::name_at;
 use super::record_details::place_in_record;
 use super::served_places::{ServedPlace, say_place, wait_advice};
 use super::streams::{StreamFault, advice, expected, say_head, say_instead, say_refused};
 use super::words::StreamWord;
-use app_text::{say, say_advice, say_name, say_number, say_shown, show_line, show_line_of};
+use app_text::Text;
 use pd_pred::Names;
-use std::alloc::{AllocError, Global};
+use std::alloc::Global;
 
 /// What begins a line that is told while a server runs.
 pub(crate) const TELLING: &str = "serve: ";
@@ -39,80 +40,85 @@ fn first_line(start: &[u8]) -> &[u8] {
 }
 
 /// Shows how a stream begins that hasn't said whose it is.
-fn show_start(out: &mut Vec<u8>, sender: Sender<'_>) -> Result<(), AllocError> {
+fn show_start(out: &mut Text, sender: Sender<'_>) {
     if sender.start.is_empty() {
-        return say(out, "Nothing came of it.\n");
+        out.say("Nothing came of it.\n");
+        return;
     }
-    say(out, "It begins so:\n")?;
-    show_line(out, first_line(sender.start), None)
+    out.say("It begins so:\n");
+    out.show_line(first_line(sender.start), None);
 }
 
 /// Says on a line who sends a stream.
-fn say_sender(out: &mut Vec<u8>, sender: Sender<'_>) -> Result<(), AllocError> {
-    say(out, "    stream ")?;
-    say_number(out, sender.stream)?;
+fn say_sender(out: &mut Text, sender: Sender<'_>) {
+    out.say("    stream ");
+    out.say_number(sender.stream);
     if !sender.origin.is_empty() {
-        say(out, ", ")?;
-        say_shown(out, sender.origin.as_bytes())?;
-        say(out, ",")?;
+        out.say(", ");
+        out.say_shown(sender.origin.as_bytes());
+        out.say(",");
     }
     match sender.process {
         Some(process) => {
-            say(out, " is the one of ")?;
-            say_name(out, process)?;
-            say(out, "\n")
+            out.say(" is the one of ");
+            out.say_name(process);
+            out.say("\n");
         }
         None => {
-            say(out, " hasn't said whose it is. ")?;
-            show_start(out, sender)
+            out.say(" hasn't said whose it is. ");
+            show_start(out, sender);
         }
     }
 }
 
 /// Shows this line, at which a stream is refused that this peer sent, or the last one if the stream ended too soon.
 fn show_sent_line(
-    out: &mut Vec<u8>,
+    out: &mut Text,
     alloc: Global,
     names: Option<&Names>,
     fault: StreamFault,
     sender: Sender<'_>,
     line: &[u8],
-) -> Result<(), AllocError> {
-    say(out, "stream ")?;
-    say_number(out, sender.stream)?;
+) {
+    out.say("stream ");
+    out.say_number(sender.stream);
     let number = fault
         .line
         .saturating_sub((fault.word == StreamWord::Unended) as u64);
     let Some(names) = names else {
-        return show_line_of(out, number, line, None);
+        out.show_line_of(number, line, None);
+        return;
     };
     let process = sender.process.and_then(|name| names.find(name));
-    let place = place_in_record(alloc, names, process, line, fault.word)?;
-    show_line_of(out, number, line, place)
+    let Some(place) = out.given(place_in_record(alloc, names, process, line, fault.word)) else {
+        return;
+    };
+    out.show_line_of(number, line, place);
 }
 
 /// Shows where a stream is refused that this peer sent, or how it begins if it is refused there.
 fn show_refused(
-    out: &mut Vec<u8>,
+    out: &mut Text,
     alloc: Global,
     names: Option<&Names>,
     fault: StreamFault,
     sender: Sender<'_>,
-) -> Result<(), AllocError> {
+) {
     let Some(line) = sender.line else {
         if sender.process.is_none() || fault.line <= 1 {
-            return show_start(out, sender);
+            show_start(out, sender);
+            return;
         }
-        return Ok(());
+        return;
     };
     if fault.word == StreamWord::Unended {
-        say(out, "Its last line is this one. ")?;
+        out.say("Its last line is this one. ");
     }
-    say(out, "In ")?;
-    show_sent_line(out, alloc, names, fault, sender, line)?;
+    out.say("In ");
+    show_sent_line(out, alloc, names, fault, sender, line);
     match names {
         Some(names) => say_instead(out, alloc, names, sender.process, line, fault.word),
-        None => Ok(()),
+        None => (),
     }
 }
 
@@ -125,51 +131,48 @@ fn is_earlier(other: Sender<'_>, sender: Sender<'_>) -> bool
 
 /// Explains why a stream is refused that this peer sent.
 fn explain_sent(
-    out: &mut Vec<u8>,
+    out: &mut Text,
     alloc: Global,
     names: Option<&Names>,
     fault: StreamFault,
     sender: Sender<'_>,
     all: &[Sender<'_>],
-) -> Result<(), AllocError> {
-    say_head(out, fault, sender.origin, sender.process)?;
+) {
+    say_head(out, fault, sender.origin, sender.process);
     if fault.word == StreamWord::Taken {
         for other in all {
             if is_earlier(*other, sender) {
-                return say_sender(out, *other);
+                say_sender(out, *other);
+                return;
             }
         }
     }
-    show_refused(out, alloc, names, fault, sender)
+    show_refused(out, alloc, names, fault, sender);
 }
 
 /// Explains why a stream of a server is refused: by whom it was sent, of these, and the line at fault, or how it begins
 /// if it doesn't say whose it is. What there is in place of an unknown name is said if the names of the document are
 /// known.
-///
-/// # Errors
-/// Out of memory; what was put until then stays.
 pub fn explain_sent_stream(
-    out: &mut Vec<u8>,
+    out: &mut Text,
     alloc: Global,
     names: Option<&Names>,
     fault: StreamFault,
     senders: &[Sender<'_>],
-) -> Result<(), AllocError> {
+) {
     match senders.iter().find(|sender| sender.stream == fault.stream) {
-        Some(sender) => explain_sent(out, alloc, names, fault, *sender, senders)?,
-        None => say_head(out, fault, "", None)?,
+        Some(sender) => explain_sent(out, alloc, names, fault, *sender, senders),
+        None => say_head(out, fault, "", None),
     }
-    say(out, "Streams count in the order in which they connected.\n")?;
-    say_advice(out, expected(fault.word), advice(fault.word))
+    out.say("Streams count in the order in which they connected.\n");
+    out.say_advice(expected(fault.word), advice(fault.word));
 }
 
 /// Says of each stream who sends it.
-fn show_senders(out: &mut Vec<u8>, senders: &[Sender<'_>]) -> Result<(), AllocError> {
+fn show_senders(out: &mut Text, senders: &[Sender<'_>]) {
     for sender in senders {
-        say_sender(out, *sender)?;
+        say_sender(out, *sender);
     }
-    Ok(())
 }
 
 /// Whether one of these streams is the one of the process of this name.
@@ -180,111 +183,87 @@ fn is_sent(senders: &[Sender<'_>], name: &str) -> bool
 }
 
 /// Says which processes of the document have sent none of these streams.
-fn say_missing(out: &mut Vec<u8>, names: &Names, senders: &[Sender<'_>]) -> Result<(), AllocError>
-    ensures { OnOk result (out.new.items
-        ≡ out.old.items ++ missing_text (missing senders.now (process_names names.now))) }
+fn say_missing(out: &mut Text, names: &Names, senders: &[Sender<'_>])
+    ensures { Says (missing_text (missing senders.now (process_names names.now))) out.old out.new }
 {
     let mut said = "Missing: ";
     for process in 0..names.processes() {
         let name = name_at(names, process);
         if !is_sent(senders, name) {
-            say(out, said)?;
-            say_name(out, name)?;
+            out.say(said);
+            out.say_name(name);
             said = ", ";
         }
     }
-    say(out, ".\n")?;
-    Ok(())
+    out.say(".\n");
 }
 
 /// Explains that not all streams have connected in time: which have, and which processes are missing.
-///
-/// # Errors
-/// Out of memory; what was put until then stays.
 pub fn explain_wait(
-    out: &mut Vec<u8>,
+    out: &mut Text,
     names: &Names,
     place: ServedPlace<'_>,
     seconds: u64,
     senders: &[Sender<'_>],
-) -> Result<(), AllocError> {
-    say(out, "In ")?;
-    say_number(out, seconds)?;
-    say(
-        out,
-        if seconds == 1 {
-            " second "
-        } else {
-            " seconds "
-        },
-    )?;
-    say_number(out, senders.len() as u64)?;
-    say(out, " of ")?;
-    say_number(out, names.processes() as u64)?;
-    say(out, " streams connected to ")?;
-    say_place(out, place)?;
-    say(out, if senders.is_empty() { ".\n" } else { ":\n" })?;
-    show_senders(out, senders)?;
-    say_missing(out, names, senders)?;
-    say_advice(
-        out,
+) {
+    out.say("In ");
+    out.say_number(seconds);
+    out.say(if seconds == 1 {
+        " second "
+    } else {
+        " seconds "
+    });
+    out.say_number(senders.len() as u64);
+    out.say(" of ");
+    out.say_number(names.processes() as u64);
+    out.say(" streams connected to ");
+    say_place(out, place);
+    out.say(if senders.is_empty() { ".\n" } else { ":\n" });
+    show_senders(out, senders);
+    say_missing(out, names, senders);
+    out.say_advice(
         "a connection for each process of the document.",
         wait_advice(place),
-    )
+    );
 }
 
 /// Explains that a session couldn't be kept: which file, and why.
-///
-/// # Errors
-/// Out of memory; what was put until then stays.
-pub fn explain_unkept(out: &mut Vec<u8>, why: Option<&str>) -> Result<(), AllocError> {
-    say(out, "Not all of the session is kept. ")?;
+pub fn explain_unkept(out: &mut Text, why: Option<&str>) {
+    out.say("Not all of the session is kept. ");
     if let Some(why) = why {
-        say_shown(out, why.as_bytes())?;
-        say(out, ".\n")?;
+        out.say_shown(why.as_bytes());
+        out.say(".\n");
     }
-    say_advice(
-        out,
+    out.say_advice(
         "an empty folder, or a name that nothing has yet in a folder that there is; and room for all that comes.",
         "give another folder after --keep, or make room.",
-    )
+    );
 }
 
 /// Tells that what comes of a stream isn't kept any more in the file of this name, and why.
-///
-/// # Errors
-/// Out of memory; what was put until then stays.
-pub fn tell_stop(out: &mut Vec<u8>, path: &str, why: &str) -> Result<(), AllocError> {
-    say(out, TELLING)?;
-    say_shown(out, path.as_bytes())?;
-    say(out, " can't be written: ")?;
-    say_shown(out, why.as_bytes())?;
-    say(
-        out,
+pub fn tell_stop(out: &mut Text, path: &str, why: &str) {
+    out.say(TELLING);
+    out.say_shown(path.as_bytes());
+    out.say(" can't be written: ");
+    out.say_shown(why.as_bytes());
+    out.say(
         ". What comes of that stream from here on isn't kept; the session is judged all the same.\n",
-    )
+    );
 }
 
 /// Tells that a stream has connected, one of this many.
-///
-/// # Errors
-/// Out of memory; what was put until then stays.
-pub fn tell_connection(
-    out: &mut Vec<u8>,
-    sender: Sender<'_>,
-    count: u64,
-) -> Result<(), AllocError> {
-    say(out, TELLING)?;
-    say(out, "stream ")?;
-    say_number(out, sender.stream)?;
-    say(out, " of ")?;
-    say_number(out, count)?;
-    say(out, " has connected")?;
+pub fn tell_connection(out: &mut Text, sender: Sender<'_>, count: u64) {
+    out.say(TELLING);
+    out.say("stream ");
+    out.say_number(sender.stream);
+    out.say(" of ");
+    out.say_number(count);
+    out.say(" has connected");
     if !sender.origin.is_empty() {
-        say(out, ", ")?;
-        say_shown(out, sender.origin.as_bytes())?;
+        out.say(", ");
+        out.say_shown(sender.origin.as_bytes());
     }
-    say(out, ".\n")
+    out.say(".\n");
 }
 
 /// Whether a process of the document has sent none of these streams.
@@ -300,53 +279,41 @@ fn is_missing(names: &Names, senders: &[Sender<'_>]) -> bool
 }
 
 /// Tells how a stream begins, one of these: whose it is, and whose are missing; or that it doesn't say that.
-///
-/// # Errors
-/// Out of memory; what was put until then stays.
-pub fn tell_start(
-    out: &mut Vec<u8>,
-    names: &Names,
-    sender: Sender<'_>,
-    senders: &[Sender<'_>],
-) -> Result<(), AllocError> {
-    say(out, TELLING)?;
-    say(out, "stream ")?;
-    say_number(out, sender.stream)?;
+pub fn tell_start(out: &mut Text, names: &Names, sender: Sender<'_>, senders: &[Sender<'_>]) {
+    out.say(TELLING);
+    out.say("stream ");
+    out.say_number(sender.stream);
     let Some(process) = sender.process else {
-        say(out, " hasn't said whose it is. ")?;
-        return show_start(out, sender);
+        out.say(" hasn't said whose it is. ");
+        show_start(out, sender);
+        return;
     };
-    say(out, " is the one of ")?;
-    say_name(out, process)?;
+    out.say(" is the one of ");
+    out.say_name(process);
     if is_missing(names, senders) {
-        say(out, ". ")?;
-        return say_missing(out, names, senders);
+        out.say(". ");
+        say_missing(out, names, senders);
+        return;
     }
-    say(out, ". None is missing.\n")
+    out.say(". None is missing.\n");
 }
 
 /// Tells that a stream is refused, at which line and why, and when the report comes. The line is shown, unless it was
 /// told before how the stream begins, since it hasn't said whose it is.
-///
-/// # Errors
-/// Out of memory; what was put until then stays.
 pub fn tell_refusal(
-    out: &mut Vec<u8>,
+    out: &mut Text,
     alloc: Global,
     names: &Names,
     fault: StreamFault,
     sender: Sender<'_>,
-) -> Result<(), AllocError> {
-    say(out, TELLING)?;
-    say(out, "stream ")?;
-    say_refused(out, fault, sender.origin, sender.process)?;
+) {
+    out.say(TELLING);
+    out.say("stream ");
+    say_refused(out, fault, sender.origin, sender.process);
     if let (Some(_), Some(line)) = (sender.process, sender.line) {
-        say(out, TELLING)?;
-        show_sent_line(out, alloc, Some(names), fault, sender, line)?;
+        out.say(TELLING);
+        show_sent_line(out, alloc, Some(names), fault, sender, line);
     }
-    say(out, TELLING)?;
-    say(
-        out,
-        "no more of it is read; the report comes once the other streams have ended.\n",
-    )
+    out.say(TELLING);
+    out.say("no more of it is read; the report comes once the other streams have ended.\n");
 }

@@ -2,7 +2,7 @@
 use super::expected_tokens::may_follow;
 use super::known_names::name_at;
 use super::near_names::{process_texts, say_near, say_owners, var_texts};
-use app_text::say;
+use app_text::Text;
 use pd_pred::Names;
 use std::alloc::{AllocError, Global};
 
@@ -57,15 +57,8 @@ fn sign_for(bytes: &[u8]) -> &'static str {
 }
 
 /// Says what may have been meant by a sign that has no meaning, at this place of a text.
-///
-/// # Errors
-/// Out of memory; what was put until then stays.
-pub(crate) fn say_meant_sign(
-    out: &mut Vec<u8>,
-    text: &str,
-    place: usize,
-) -> Result<(), AllocError> {
-    say(out, sign_for(rest_at(text, place)))
+pub(crate) fn say_meant_sign(out: &mut Text, text: &str, place: usize) {
+    out.say(sign_for(rest_at(text, place)));
 }
 
 /// Whether a comparison's sign stands at the start of these bytes.
@@ -99,50 +92,44 @@ fn form_for(before: &[u8], rest: &[u8]) -> &'static str {
 }
 
 /// Says which word of predicates is near to this one, in capital letters too, if it may follow a text.
-fn say_near_word(
-    out: &mut Vec<u8>,
-    alloc: Global,
-    names: &Names,
-    begin: &str,
-    word: &str,
-) -> Result<(), AllocError> {
-    let word = word.to_ascii_lowercase(alloc)?;
+fn say_near_word(out: &mut Text, alloc: Global, names: &Names, begin: &str, word: &str) {
+    let Some(word) = out.given(word.to_ascii_lowercase(alloc)) else {
+        return;
+    };
     for known in WORDS {
-        if may_follow(alloc, names, begin, known)? && say_near(out, alloc, &word, &[known], "")? {
-            return Ok(());
+        let may_follow = out.given(may_follow(alloc, names, begin, known)) == Some(true);
+        if may_follow && say_near(out, alloc, &word, &[known], "") {
+            return;
         }
     }
-    Ok(())
 }
 
 /// Says what may have been meant by what can't follow what stands before it, at this place of a text.
-///
-/// # Errors
-/// Out of memory; what was put until then stays.
 pub(crate) fn say_meant_form(
-    out: &mut Vec<u8>,
+    out: &mut Text,
     alloc: Global,
     names: &Names,
     text: &str,
     place: usize,
-) -> Result<(), AllocError> {
+) {
     let (before, rest) = (before_at(text, place), rest_at(text, place));
     let form = form_for(before, rest);
     if !form.is_empty() {
-        return say(out, form);
+        out.say(form);
+        return;
     }
     let begin = str::from_utf8(before).unwrap_or("");
-    if is_comparison(rest) && may_follow(alloc, names, begin, "and")? {
-        return say(
-            out,
-            "A comparison has two sides: for 1 < a.x < 3 write 1 < a.x and a.x < 3.\n",
-        );
+    if is_comparison(rest) && out.given(may_follow(alloc, names, begin, "and")) == Some(true) {
+        out.say("A comparison has two sides: for 1 < a.x < 3 write 1 < a.x and a.x < 3.\n");
+        return;
     }
     let word = first_word(rest);
-    if (word == "true" || word == "false") && may_follow(alloc, names, begin, "1")? {
-        return say(out, VALUES);
+    let is_truth = word == "true" || word == "false";
+    if is_truth && out.given(may_follow(alloc, names, begin, "1")) == Some(true) {
+        out.say(VALUES);
+        return;
     }
-    say_near_word(out, alloc, names, begin, word)
+    say_near_word(out, alloc, names, begin, word);
 }
 
 /// Whether the first byte that is no space or tab is a dot.
@@ -155,49 +142,51 @@ fn begins_with_dot(bytes: &[u8]) -> bool {
     false
 }
 
+/// The name of a process, with the dot before a variable.
+fn dotted(alloc: Global, process: &str) -> Result<String, AllocError> {
+    let mut text = String::from_str(alloc, process)?;
+    text.push_str(".")?;
+    Ok(text)
+}
+
 /// Says which variable may have been meant by a name that the process before it has not.
-fn say_meant_var(
-    out: &mut Vec<u8>,
-    alloc: Global,
-    names: &Names,
-    process: usize,
-    word: &str,
-) -> Result<(), AllocError> {
-    let vars = var_texts(alloc, names, process)?;
-    let mut before = String::from_str(alloc, name_at(names, process))?;
-    before.push_str(".")?;
-    if !say_near(out, alloc, word, &vars, &before)? {
-        let _ = say_owners(out, names, word)?;
+fn say_meant_var(out: &mut Text, alloc: Global, names: &Names, process: usize, word: &str) {
+    let Some(vars) = out.given(var_texts(alloc, names, process)) else {
+        return;
+    };
+    let Some(before) = out.given(dotted(alloc, name_at(names, process))) else {
+        return;
+    };
+    if !say_near(out, alloc, word, &vars, &before) {
+        let _ = say_owners(out, names, word);
     }
-    Ok(())
 }
 
 /// Says what may have been meant by a name that there isn't, at this place of a text: of a variable if the process
 /// before it is known, and else of a process, or of a variable without its process.
-///
-/// # Errors
-/// Out of memory; what was put until then stays.
 pub(crate) fn say_meant_name(
-    out: &mut Vec<u8>,
+    out: &mut Text,
     alloc: Global,
     names: &Names,
     text: &str,
     place: usize,
     process: Option<usize>,
-) -> Result<(), AllocError> {
+) {
     let rest = rest_at(text, place);
     let word = first_word(rest);
     if let Some(process) = process {
-        return say_meant_var(out, alloc, names, process, word);
+        say_meant_var(out, alloc, names, process, word);
+        return;
     }
     if begins_with_dot(rest.get(word.len()..).unwrap_or(&[])) {
-        let processes = process_texts(alloc, names)?;
-        let _ = say_near(out, alloc, word, &processes, "")?;
-        return Ok(());
+        let Some(processes) = out.given(process_texts(alloc, names)) else {
+            return;
+        };
+        let _ = say_near(out, alloc, word, &processes, "");
+        return;
     }
-    if !say_owners(out, names, word)? {
+    if !say_owners(out, names, word) {
         let begin = str::from_utf8(before_at(text, place)).unwrap_or("");
-        say_near_word(out, alloc, names, begin, word)?;
+        say_near_word(out, alloc, names, begin, word);
     }
-    Ok(())
 }

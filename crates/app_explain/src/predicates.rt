@@ -3,7 +3,7 @@ use super::expected_tokens::say_expected_tokens;
 use super::known_names::{name_at, say_processes, say_vars};
 use super::predicate_hints::{say_meant_form, say_meant_name, say_meant_sign};
 use super::words::PredicateWord;
-use app_text::{Source, say, say_advice, say_name, say_number, say_shown, show_line};
+use app_text::{Source, Text};
 use pd_pred::Names;
 use pd_spec::{Spec, SpecFault};
 use serde_json::Value;
@@ -99,28 +99,22 @@ fn bare_document(alloc: Global, document: &Value) -> Result<Option<Spec>, AllocE
 }
 
 /// Says which names there are in place of the one at this place of a predicate's text.
-fn say_known_names(
-    out: &mut Vec<u8>,
-    alloc: Global,
-    names: &Names,
-    text: &str,
-    place: usize,
-) -> Result<(), AllocError> {
+fn say_known_names(out: &mut Text, alloc: Global, names: &Names, text: &str, place: usize) {
     let process = process_before(names, text.as_bytes(), place);
     match process {
         Some(process) => {
-            say(out, "Expected here: a variable of process ")?;
-            say_name(out, name_at(names, process))?;
-            say(out, ", which has ")?;
-            say_vars(out, names, process)?;
+            out.say("Expected here: a variable of process ");
+            out.say_name(name_at(names, process));
+            out.say(", which has ");
+            say_vars(out, names, process);
         }
         None => {
-            say(out, "Expected here: a process of the session, which has ")?;
-            say_processes(out, names)?;
+            out.say("Expected here: a process of the session, which has ");
+            say_processes(out, names);
         }
     }
-    say(out, ".\n")?;
-    say_meant_name(out, alloc, names, text, place, process)
+    out.say(".\n");
+    say_meant_name(out, alloc, names, text, place, process);
 }
 
 /// The process whose variable should stand at this place of a text: the one before a dot.
@@ -168,75 +162,70 @@ fn ends_with_word(bytes: &[u8], word: &[u8]) -> bool {
 
 /// Shows the text of a predicate with a caret at the fault, and says what is expected there.
 fn show_text(
-    out: &mut Vec<u8>,
+    out: &mut Text,
     alloc: Global,
     source: &Source<'_>,
     document: &Value,
     fault: PredicateFault,
-) -> Result<(), AllocError> {
+) {
     let Some((_, text)) = predicate_at(document, fault.k) else {
-        return Ok(());
+        return;
     };
     let place = fault.at.saturating_sub(1) as usize;
-    say(out, "In ")?;
-    say_shown(out, source.name.as_bytes())?;
-    say(out, ", byte ")?;
-    say_number(out, fault.at)?;
-    say(out, " of the predicate's text:\n")?;
-    show_line(out, text.as_bytes(), Some(place))?;
-    let Some(spec) = bare_document(alloc, document)? else {
-        return Ok(());
+    out.say("In ");
+    out.say_shown(source.name.as_bytes());
+    out.say(", byte ");
+    out.say_number(fault.at);
+    out.say(" of the predicate's text:\n");
+    out.show_line(text.as_bytes(), Some(place));
+    let Some(Some(spec)) = out.given(bare_document(alloc, document)) else {
+        return;
     };
     match fault.word {
         PredicateWord::Expected => {
-            say_expected_tokens(out, alloc, spec.names(), text, place)?;
-            say_meant_form(out, alloc, spec.names(), text, place)
+            say_expected_tokens(out, alloc, spec.names(), text, place);
+            say_meant_form(out, alloc, spec.names(), text, place);
         }
         PredicateWord::UnknownName => say_known_names(out, alloc, spec.names(), text, place),
         PredicateWord::Character => say_meant_sign(out, text, place),
-        _ => Ok(()),
+        _ => (),
     }
 }
 
 /// Explains why the text of a predicate is refused, where only the fault is known.
-///
-/// # Errors
-/// Out of memory; what was put until then stays.
-pub fn explain_predicate_word(out: &mut Vec<u8>, fault: PredicateFault) -> Result<(), AllocError> {
-    say(out, "Predicate ")?;
-    say_number(out, fault.k)?;
-    say(out, " can't be read, at byte ")?;
-    say_number(out, fault.at)?;
-    say(out, " of its text: ")?;
-    say(out, meaning(fault.word))?;
-    say(out, "\n")?;
-    say_advice(out, expected(fault.word), advice(fault.word))
+pub fn explain_predicate_word(out: &mut Text, fault: PredicateFault) {
+    out.say("Predicate ");
+    out.say_number(fault.k);
+    out.say(" can't be read, at byte ");
+    out.say_number(fault.at);
+    out.say(" of its text: ");
+    out.say(meaning(fault.word));
+    out.say("\n");
+    out.say_advice(expected(fault.word), advice(fault.word));
 }
 
 /// Explains why the text of a predicate of this document is refused: what the fault means, the text with a caret below
 /// the place, what is expected there, and what to do.
-///
-/// # Errors
-/// Out of memory; what was put until then stays.
 pub fn explain_predicate(
-    out: &mut Vec<u8>,
+    out: &mut Text,
     alloc: Global,
     source: &Source<'_>,
     fault: PredicateFault,
-) -> Result<(), AllocError> {
+) {
     let Ok(document) = Value::from_slice(alloc, source.bytes) else {
-        return explain_predicate_word(out, fault);
+        explain_predicate_word(out, fault);
+        return;
     };
-    say(out, "Predicate ")?;
-    say_number(out, fault.k)?;
+    out.say("Predicate ");
+    out.say_number(fault.k);
     if let Some((name, _)) = predicate_at(&document, fault.k) {
-        say(out, ", ")?;
-        say_name(out, name)?;
-        say(out, ",")?;
+        out.say(", ");
+        out.say_name(name);
+        out.say(",");
     }
-    say(out, " can't be read: ")?;
-    say(out, meaning(fault.word))?;
-    say(out, "\n")?;
-    show_text(out, alloc, source, &document, fault)?;
-    say_advice(out, expected(fault.word), advice(fault.word))
+    out.say(" can't be read: ");
+    out.say(meaning(fault.word));
+    out.say("\n");
+    show_text(out, alloc, source, &document, fault);
+    out.say_advice(expected(fault.word), advice(fault.word));
 }

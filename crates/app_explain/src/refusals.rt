@@ -11,7 +11,7 @@ use super::streams::{
     StreamFault, explain_stream, explain_stream_with, explain_stream_word, joined_name,
 };
 use super::words::{DocumentWord, MessageWord, PredicateWord, StreamWord};
-use app_text::Source;
+use app_text::{Source, Text};
 use pd_report::Refusal;
 use pd_spec::{Options, document_text};
 use std::alloc::{AllocError, Global};
@@ -54,12 +54,7 @@ fn asked_text(alloc: Global, bytes: &[u8], options: Option<&Options<'_>>) -> Opt
 }
 
 /// Explains a document in which two names are the same, as it is with the predicates that are asked.
-fn put_twice(
-    out: &mut Vec<u8>,
-    alloc: Global,
-    seen: Seen<'_>,
-    document: &Source<'_>,
-) -> Result<(), AllocError> {
+fn put_twice(out: &mut Text, alloc: Global, seen: Seen<'_>, document: &Source<'_>) {
     match asked_text(alloc, document.bytes, seen.options) {
         Some(bytes) => {
             let source = Source {
@@ -67,39 +62,30 @@ fn put_twice(
                 bytes: &bytes,
                 before: 0,
             };
-            explain_document(out, alloc, &source, DocumentWord::NameTwice)
+            explain_document(out, alloc, &source, DocumentWord::NameTwice);
         }
         None => explain_document_word(out, DocumentWord::NameTwice),
     }
 }
 
 /// Explains a document that is refused by this word.
-fn put_document(
-    out: &mut Vec<u8>,
-    alloc: Global,
-    seen: Seen<'_>,
-    word: DocumentWord,
-) -> Result<(), AllocError> {
+fn put_document(out: &mut Text, alloc: Global, seen: Seen<'_>, word: DocumentWord) {
     match seen.document {
         Some(source) if word == DocumentWord::NameTwice && asks_predicates(seen.options) => {
-            put_twice(out, alloc, seen, &source)
+            put_twice(out, alloc, seen, &source);
         }
         Some(source) if !may_be_asked(seen.options, word) => {
-            explain_document(out, alloc, &source, word)
+            explain_document(out, alloc, &source, word);
         }
         _ => explain_document_word(out, word),
     }
 }
 
 /// Explains a predicate whose text is refused.
-fn put_predicate(
-    out: &mut Vec<u8>,
-    alloc: Global,
-    seen: Seen<'_>,
-    fault: PredicateFault,
-) -> Result<(), AllocError> {
+fn put_predicate(out: &mut Text, alloc: Global, seen: Seen<'_>, fault: PredicateFault) {
     let Some(document) = seen.document else {
-        return explain_predicate_word(out, fault);
+        explain_predicate_word(out, fault);
+        return;
     };
     match asked_text(alloc, document.bytes, seen.options) {
         Some(bytes) => {
@@ -108,25 +94,23 @@ fn put_predicate(
                 bytes: &bytes,
                 before: 0,
             };
-            explain_predicate(out, alloc, &source, fault)
+            explain_predicate(out, alloc, &source, fault);
         }
         None => explain_predicate_word(out, fault),
     }
 }
 
 /// Explains a stream that can't be read, in the system's words if they are known.
-fn put_unread(
-    out: &mut Vec<u8>,
-    alloc: Global,
-    stream: &SeenStream<'_>,
-    fault: StreamFault,
-) -> Result<(), AllocError> {
+fn put_unread(out: &mut Text, alloc: Global, stream: &SeenStream<'_>, fault: StreamFault) {
     let why = stream.failure;
     if why.is_empty() {
-        return explain_stream_with(out, fault, stream.file, "");
+        explain_stream_with(out, fault, stream.file, "");
+        return;
     }
-    let said = format!(in alloc; "The system says: {why}")?;
-    explain_stream_with(out, fault, stream.file, &said)
+    let Some(said) = out.given(format!(in alloc; "The system says: {why}")) else {
+        return;
+    };
+    explain_stream_with(out, fault, stream.file, &said);
 }
 
 /// Whose stream it is, if it is known and says so.
@@ -170,51 +154,50 @@ fn other_stream(
 
 /// Explains a stream of a process that an earlier stream is one of.
 fn put_taken(
-    out: &mut Vec<u8>,
+    out: &mut Text,
     alloc: Global,
     seen: Seen<'_>,
     stream: &SeenStream<'_>,
     fault: StreamFault,
-) -> Result<(), AllocError> {
-    let Some(process) = process_of(alloc, stream)? else {
-        return explain_stream_with(out, fault, stream.file, "");
+) {
+    let Some(Some(process)) = out.given(process_of(alloc, stream)) else {
+        explain_stream_with(out, fault, stream.file, "");
+        return;
     };
-    let why = match stream_of(alloc, seen, &process)? {
-        Some((place, other, _)) => other_stream(alloc, place, other.file, &process)?,
-        None => String::new(alloc),
+    let why = match out.given(stream_of(alloc, seen, &process)) {
+        Some(Some((place, other, _))) => {
+            out.given(other_stream(alloc, place, other.file, &process))
+        }
+        _ => None,
     };
-    explain_stream_with(out, fault, stream.file, &why)
+    explain_stream_with(out, fault, stream.file, why.as_deref().unwrap_or(""));
 }
 
 /// Explains a stream that is refused by what it says.
 fn put_line(
-    out: &mut Vec<u8>,
+    out: &mut Text,
     alloc: Global,
     seen: Seen<'_>,
     stream: &SeenStream<'_>,
     fault: StreamFault,
-) -> Result<(), AllocError> {
+) {
     match seen.spec(alloc) {
-        Some(spec) => explain_stream(out, alloc, spec.names(), *stream, seen.order, fault)?,
-        None => explain_stream_word(out, fault, stream.file, seen.order)?,
+        Some(spec) => explain_stream(out, alloc, spec.names(), *stream, seen.order, fault),
+        None => explain_stream_word(out, fault, stream.file, seen.order),
     }
-    match (stream.source, process_of(alloc, stream)?) {
-        (Some(source), Some(process)) => {
-            put_last_note(out, seen.notes, &process, source.bytes, fault.line)
+    match (stream.source, out.given(process_of(alloc, stream))) {
+        (Some(source), Some(Some(process))) => {
+            put_last_note(out, seen.notes, &process, source.bytes, fault.line);
         }
-        _ => Ok(()),
+        _ => (),
     }
 }
 
 /// Explains a stream that is refused.
-fn put_stream(
-    out: &mut Vec<u8>,
-    alloc: Global,
-    seen: Seen<'_>,
-    fault: StreamFault,
-) -> Result<(), AllocError> {
+fn put_stream(out: &mut Text, alloc: Global, seen: Seen<'_>, fault: StreamFault) {
     let Some(stream) = seen.stream(fault.stream) else {
-        return explain_stream_word(out, fault, "", seen.order);
+        explain_stream_word(out, fault, "", seen.order);
+        return;
     };
     match fault.word {
         StreamWord::Read => put_unread(out, alloc, stream, fault),
@@ -224,20 +207,17 @@ fn put_stream(
 }
 
 /// Explains that a process has no stream, and says whose streams there are.
-fn put_absent(
-    out: &mut Vec<u8>,
-    alloc: Global,
-    seen: Seen<'_>,
-    process: &str,
-) -> Result<(), AllocError> {
-    explain_absent(out, process)?;
+fn put_absent(out: &mut Text, alloc: Global, seen: Seen<'_>, process: &str) {
+    explain_absent(out, process);
     for stream in seen.streams {
         if let Some(source) = stream.source {
-            let found = process_of(alloc, stream)?;
-            show_join(out, source.name, found.as_deref())?;
+            let Some(found) = out.given(process_of(alloc, stream)) else {
+                return;
+            };
+            show_join(out, source.name, found.as_deref());
         }
     }
-    advise_absent(out)
+    advise_absent(out);
 }
 
 /// Which other events are shown beside one whose message has the fault of this word.
@@ -266,157 +246,142 @@ fn senders() -> Others<'static> {
 /// Shows another event of a stream that sends or receives this message, with what was noted of it. It gives whether
 /// there is one.
 fn put_other(
-    out: &mut Vec<u8>,
+    out: &mut Text,
     alloc: Global,
     seen: Seen<'_>,
     source: &Source<'_>,
     others: Others<'_>,
     id: &str,
     but: u64,
-) -> Result<bool, AllocError> {
-    let Some(number) = show_other(out, alloc, source, others, id, but)? else {
-        return Ok(false);
+) -> bool {
+    let Some(number) = show_other(out, alloc, source, others, id, but) else {
+        return false;
     };
-    if let Some(process) = joined_name(alloc, source.bytes)? {
+    if let Some(Some(process)) = out.given(joined_name(alloc, source.bytes)) {
         let process = process.as_str();
-        put_note(out, seen.notes, EventName { process, number })?;
+        put_note(out, seen.notes, EventName { process, number });
     }
-    Ok(true)
+    true
 }
 
 /// Shows the other events that send or receive this message.
 fn put_others(
-    out: &mut Vec<u8>,
+    out: &mut Text,
     alloc: Global,
     seen: Seen<'_>,
     others: Others<'_>,
     id: &str,
     but: (usize, u64),
-) -> Result<(), AllocError> {
+) {
     for (place, stream) in seen.streams.iter().enumerate() {
         if let Some(source) = stream.source {
             let number = if place == but.0 { but.1 } else { 0 };
-            let _ = put_other(out, alloc, seen, &source, others, id, number)?;
+            let _ = put_other(out, alloc, seen, &source, others, id, number);
         }
     }
-    Ok(())
 }
 
 /// Shows the event of a message that is refused, and the others with its id.
 fn put_event(
-    out: &mut Vec<u8>,
+    out: &mut Text,
     alloc: Global,
     seen: Seen<'_>,
     event: EventName<'_>,
     word: MessageWord,
-) -> Result<(), AllocError> {
-    let Some((place, _, source)) = stream_of(alloc, seen, event.process)? else {
-        return Ok(());
+) {
+    let Some(Some((place, _, source))) = out.given(stream_of(alloc, seen, event.process)) else {
+        return;
     };
-    show_event(out, &source, event)?;
-    put_note(out, seen.notes, event)?;
+    show_event(out, &source, event);
+    put_note(out, seen.notes, event);
     if word == MessageWord::Orphan {
-        return Ok(());
+        return;
     }
-    let Some(id) = message_of(alloc, source.bytes, event.number)? else {
-        return Ok(());
+    let Some(Some(id)) = out.given(message_of(alloc, source.bytes, event.number)) else {
+        return;
     };
     let others = others_of(word);
     // A process that receives a message twice has that fault in either version, whoever else receives it.
     if word == MessageWord::ReceivedTwice
-        && put_other(out, alloc, seen, &source, others, &id, event.number)?
+        && put_other(out, alloc, seen, &source, others, &id, event.number)
     {
-        return Ok(());
+        return;
     }
-    put_others(out, alloc, seen, others, &id, (place, event.number))
+    put_others(out, alloc, seen, others, &id, (place, event.number));
 }
 
 /// Shows an event of a causal cycle, and where its message is sent.
-fn put_step(
-    out: &mut Vec<u8>,
-    alloc: Global,
-    seen: Seen<'_>,
-    event: EventName<'_>,
-) -> Result<(), AllocError> {
-    let Some((place, _, source)) = stream_of(alloc, seen, event.process)? else {
-        return show_step(out, alloc, None, event);
+fn put_step(out: &mut Text, alloc: Global, seen: Seen<'_>, event: EventName<'_>) {
+    let Some(Some((place, _, source))) = out.given(stream_of(alloc, seen, event.process)) else {
+        show_step(out, alloc, None, event);
+        return;
     };
-    show_step(out, alloc, Some(&source), event)?;
-    put_note(out, seen.notes, event)?;
-    match message_of(alloc, source.bytes, event.number)? {
+    show_step(out, alloc, Some(&source), event);
+    put_note(out, seen.notes, event);
+    let Some(found) = out.given(message_of(alloc, source.bytes, event.number)) else {
+        return;
+    };
+    match found {
         Some(id) => put_others(out, alloc, seen, senders(), &id, (place, 0)),
-        None => Ok(()),
+        None => (),
     }
 }
 
 /// Explains a causal cycle.
-fn put_cycle(
-    out: &mut Vec<u8>,
-    alloc: Global,
-    seen: Seen<'_>,
-    places: &[(String, u64)],
-) -> Result<(), AllocError> {
-    explain_cycle(out)?;
+fn put_cycle(out: &mut Text, alloc: Global, seen: Seen<'_>, places: &[(String, u64)]) {
+    explain_cycle(out);
     for (process, number) in places.iter().take(SHOWN_EVENTS) {
         let event = EventName {
             process: process.as_str(),
             number: *number,
         };
-        put_step(out, alloc, seen, event)?;
+        put_step(out, alloc, seen, event);
     }
-    advise_cycle(out)
+    advise_cycle(out);
 }
 
 /// Explains why an event's message is refused.
 fn put_message(
-    out: &mut Vec<u8>,
+    out: &mut Text,
     alloc: Global,
     seen: Seen<'_>,
     event: EventName<'_>,
     word: MessageWord,
-) -> Result<(), AllocError> {
-    explain_message(out, event, word)?;
-    put_event(out, alloc, seen, event, word)?;
-    advise_messages(out, word)
+) {
+    explain_message(out, event, word);
+    put_event(out, alloc, seen, event, word);
+    advise_messages(out, word);
 }
 
 /// Explains why a session is refused, by what was read of it. Nothing is said of a word that no report has.
-///
-/// # Errors
-/// Out of memory; what was put until then stays.
-pub fn explain_refusal(
-    out: &mut Vec<u8>,
-    alloc: Global,
-    seen: Seen<'_>,
-    refusal: &Refusal,
-) -> Result<(), AllocError> {
+pub fn explain_refusal(out: &mut Text, alloc: Global, seen: Seen<'_>, refusal: &Refusal) {
     match refusal {
         Refusal::Spec(word) => match DocumentWord::of(word) {
             Some(word) => put_document(out, alloc, seen, word),
-            None => Ok(()),
+            None => (),
         },
         Refusal::Predicate { k, word, at } => match PredicateWord::of(word) {
             Some(word) => {
                 let (k, at) = (*k, *at);
-                put_predicate(out, alloc, seen, PredicateFault { k, word, at })
+                put_predicate(out, alloc, seen, PredicateFault { k, word, at });
             }
-            None => Ok(()),
+            None => (),
         },
         Refusal::Streams => explain_streams(out),
         Refusal::Stream { stream, line, word } => match StreamWord::of(word) {
             Some(word) => {
                 let (stream, line) = (*stream, *line);
-                put_stream(out, alloc, seen, StreamFault { stream, line, word })
+                put_stream(out, alloc, seen, StreamFault { stream, line, word });
             }
-            None => Ok(()),
+            None => (),
         },
         Refusal::Absent(name) => put_absent(out, alloc, seen, name),
         Refusal::Match { word, name, number } => match MessageWord::of(word) {
             Some(word) => {
                 let (process, number) = (name.as_str(), *number);
-                put_message(out, alloc, seen, EventName { process, number }, word)
+                put_message(out, alloc, seen, EventName { process, number }, word);
             }
-            None => Ok(()),
+            None => (),
         },
         Refusal::Cycle(places) => put_cycle(out, alloc, seen, places),
     }

@@ -1,7 +1,7 @@
 //! Explains what concerns the places where a server waits for streams and watchers.
 use super::known_names::say_processes;
 use super::peers::TELLING;
-use app_text::{say, say_number, say_shown};
+use app_text::Text;
 use pd_pred::Names;
 use std::alloc::AllocError;
 
@@ -17,14 +17,14 @@ pub enum ServedPlace<'a> {
 }
 
 /// Says where that is.
-pub(crate) fn say_place(out: &mut Vec<u8>, place: ServedPlace<'_>) -> Result<(), AllocError> {
+pub(crate) fn say_place(out: &mut Text, place: ServedPlace<'_>) {
     match place {
         ServedPlace::Port(port) => {
-            say(out, "port ")?;
-            say_number(out, port)
+            out.say("port ");
+            out.say_number(port);
         }
-        ServedPlace::Address(text) => say_shown(out, text.as_bytes()),
-        ServedPlace::Socket(path) => say_shown(out, path.as_bytes()),
+        ServedPlace::Address(text) => out.say_shown(text.as_bytes()),
+        ServedPlace::Socket(path) => out.say_shown(path.as_bytes()),
     }
 }
 
@@ -60,119 +60,92 @@ another server uses it; or give another path after --socket, in a folder that th
 }
 
 /// Explains that a place can't be bound, in the words of the system.
-///
-/// # Errors
-/// Out of memory; what was put until then stays.
-pub fn explain_unbound(
-    out: &mut Vec<u8>,
-    place: ServedPlace<'_>,
-    why: &str,
-) -> Result<(), AllocError> {
+pub fn explain_unbound(out: &mut Text, place: ServedPlace<'_>, why: &str) {
     match place {
         ServedPlace::Port(port) => {
-            say(out, "Port ")?;
-            say_number(out, port)?;
-            say(out, " of this machine can't be used: ")?;
+            out.say("Port ");
+            out.say_number(port);
+            out.say(" of this machine can't be used: ");
         }
         ServedPlace::Address(text) => {
-            say(out, "Address ")?;
-            say_shown(out, text.as_bytes())?;
-            say(out, " can't be used: ")?;
+            out.say("Address ");
+            out.say_shown(text.as_bytes());
+            out.say(" can't be used: ");
         }
         ServedPlace::Socket(path) => {
-            say(out, "The socket ")?;
-            say_shown(out, path.as_bytes())?;
-            say(out, " can't be made: ")?;
+            out.say("The socket ");
+            out.say_shown(path.as_bytes());
+            out.say(" can't be made: ");
         }
     }
-    say_shown(out, why.as_bytes())?;
-    say(out, bind_advice(place))
+    out.say_shown(why.as_bytes());
+    out.say(bind_advice(place));
 }
 
 /// Explains that no connection could be accepted there.
-///
-/// # Errors
-/// Out of memory; what was put until then stays.
-pub fn explain_connection(out: &mut Vec<u8>, place: ServedPlace<'_>) -> Result<(), AllocError> {
-    say(out, "A connection to ")?;
-    say_place(out, place)?;
-    say(
-        out,
-        match place {
-            ServedPlace::Socket(_) => " couldn't be accepted: try again.\n",
-            _ => " couldn't be accepted, or the port was taken until now: try again.\n",
-        },
-    )
+pub fn explain_connection(out: &mut Text, place: ServedPlace<'_>) {
+    out.say("A connection to ");
+    say_place(out, place);
+    out.say(match place {
+        ServedPlace::Socket(_) => " couldn't be accepted: try again.\n",
+        _ => " couldn't be accepted, or the port was taken until now: try again.\n",
+    });
 }
 
 /// Explains that the file of the port couldn't be written: which file, and why.
-///
-/// # Errors
-/// Out of memory; what was put until then stays.
-pub fn explain_unfiled(out: &mut Vec<u8>, why: &str) -> Result<(), AllocError> {
-    say(out, "The file of the port can't be written. ")?;
-    say_shown(out, why.as_bytes())?;
-    say(
-        out,
+pub fn explain_unfiled(out: &mut Text, why: &str) {
+    out.say("The file of the port can't be written. ");
+    out.say_shown(why.as_bytes());
+    out.say(
         ".\nWhat to do: give a file after --port-file in a folder that there is and into which you may write.\n",
-    )
+    );
 }
 
 /// Says how many watchers there are.
-fn say_watchers(out: &mut Vec<u8>, watchers: u64) -> Result<(), AllocError> {
-    say(out, " for ")?;
-    say_number(out, watchers)?;
-    say(
-        out,
-        if watchers == 1 {
-            " watcher"
-        } else {
-            " watchers"
-        },
-    )
+fn say_watchers(out: &mut Text, watchers: u64) {
+    out.say(" for ");
+    out.say_number(watchers);
+    out.say(if watchers == 1 {
+        " watcher"
+    } else {
+        " watchers"
+    });
 }
 
 /// Tells where the streams are waited for, and whose, and how many watchers: at the next port, or at another place that
 /// is named.
-///
-/// # Errors
-/// Out of memory; what was put until then stays.
 pub fn tell_places(
-    out: &mut Vec<u8>,
+    out: &mut Text,
     names: &Names,
     place: ServedPlace<'_>,
     watched: Option<ServedPlace<'_>>,
     watchers: u64,
-) -> Result<(), AllocError> {
-    say(out, TELLING)?;
-    say_place(out, place)?;
+) {
+    out.say(TELLING);
+    say_place(out, place);
     if let ServedPlace::Port(_) = place {
-        say(out, " of this machine")?;
+        out.say(" of this machine");
     }
-    say(out, " waits for the streams of ")?;
-    say_processes(out, names)?;
+    out.say(" waits for the streams of ");
+    say_processes(out, names);
     if watchers > 0 {
-        say(out, ", and ")?;
+        out.say(", and ");
         match watched {
-            Some(other) => say_place(out, other)?,
-            None => say(out, "the next one")?,
+            Some(other) => say_place(out, other),
+            None => out.say("the next one"),
         }
-        say_watchers(out, watchers)?;
+        say_watchers(out, watchers);
     }
-    say(out, ".\n")
+    out.say(".\n");
 }
 
 /// Warns that others than this machine may connect to an address.
-///
-/// # Errors
-/// Out of memory; what was put until then stays.
-pub fn warn_of_open(out: &mut Vec<u8>, place: ServedPlace<'_>) -> Result<(), AllocError> {
-    say(out, TELLING)?;
-    say(out, "warning: ")?;
-    say_place(out, place)?;
-    say(
-        out,
+pub fn warn_of_open(out: &mut Text, place: ServedPlace<'_>) {
+    out.say(TELLING);
+    out.say("warning: ");
+    say_place(out, place);
+    out.say(
         " isn't for this machine alone, and there is no authentication: whoever can connect to it can be a stream, or \
 a watcher. Bind an address of a private network only.\n",
-    )
+    );
 }

@@ -11,9 +11,7 @@ use super::near_names::{process_texts, say_near, var_texts};
 use super::record_details::{FIELDS, name_in_record, place_in_record};
 use super::seen::SeenStream;
 use super::words::StreamWord;
-use app_text::{
-    Source, line_at, record_after, say, say_advice, say_name, say_number, say_shown, show_numbered,
-};
+use app_text::{Source, Text, line_at, record_after};
 use pd_pred::Names;
 use std::alloc::{AllocError, Global};
 
@@ -116,222 +114,201 @@ pub fn joined_name(alloc: Global, bytes: &[u8]) -> Result<Option<String>, AllocE
 }
 
 /// Says which stream is refused, at which line, and why.
-pub(crate) fn say_head(
-    out: &mut Vec<u8>,
-    fault: StreamFault,
-    file: &str,
-    process: Option<&str>,
-) -> Result<(), AllocError> {
-    say(out, "Stream ")?;
-    say_refused(out, fault, file, process)
+pub(crate) fn say_head(out: &mut Text, fault: StreamFault, file: &str, process: Option<&str>) {
+    out.say("Stream ");
+    say_refused(out, fault, file, process);
 }
 
 /// Says of the stream with this number that it is refused, at which line, and why.
-pub(crate) fn say_refused(
-    out: &mut Vec<u8>,
-    fault: StreamFault,
-    file: &str,
-    process: Option<&str>,
-) -> Result<(), AllocError> {
-    say_number(out, fault.stream)?;
+pub(crate) fn say_refused(out: &mut Text, fault: StreamFault, file: &str, process: Option<&str>) {
+    out.say_number(fault.stream);
     if !file.is_empty() {
-        say(out, ", ")?;
-        say_shown(out, file.as_bytes())?;
-        say(out, ",")?;
+        out.say(", ");
+        out.say_shown(file.as_bytes());
+        out.say(",");
     }
     if let Some(process) = process {
-        say(out, " of process ")?;
-        say_name(out, process)?;
-        say(out, if file.is_empty() { "" } else { "," })?;
+        out.say(" of process ");
+        out.say_name(process);
+        out.say(if file.is_empty() { "" } else { "," });
     }
-    say(out, " is refused at line ")?;
-    say_number(out, fault.line)?;
-    say(out, ": ")?;
-    say(out, meaning(fault.word))?;
-    say(out, "\n")
+    out.say(" is refused at line ");
+    out.say_number(fault.line);
+    out.say(": ");
+    out.say(meaning(fault.word));
+    out.say("\n");
 }
 
 /// Explains why the stream in the file of this name is refused, or in none if the name is empty, where only the fault
 /// is known, and says in which order streams count.
-///
-/// # Errors
-/// Out of memory; what was put until then stays.
-pub fn explain_stream_word(
-    out: &mut Vec<u8>,
-    fault: StreamFault,
-    file: &str,
-    order: &str,
-) -> Result<(), AllocError> {
-    say_head(out, fault, file, None)?;
-    say(out, order)?;
-    say_advice(out, expected(fault.word), advice(fault.word))
+pub fn explain_stream_word(out: &mut Text, fault: StreamFault, file: &str, order: &str) {
+    say_head(out, fault, file, None);
+    out.say(order);
+    out.say_advice(expected(fault.word), advice(fault.word));
 }
 
 /// Explains why the stream in the file of this name is refused, and says more of why, in a sentence.
-///
-/// # Errors
-/// Out of memory; what was put until then stays.
-pub fn explain_stream_with(
-    out: &mut Vec<u8>,
-    fault: StreamFault,
-    file: &str,
-    why: &str,
-) -> Result<(), AllocError> {
-    say_head(out, fault, file, None)?;
+pub fn explain_stream_with(out: &mut Text, fault: StreamFault, file: &str, why: &str) {
+    say_head(out, fault, file, None);
     if !why.is_empty() {
-        say_shown(out, why.as_bytes())?;
-        say(out, ".\n")?;
+        out.say_shown(why.as_bytes());
+        out.say(".\n");
     }
-    say_advice(out, expected(fault.word), advice(fault.word))
+    out.say_advice(expected(fault.word), advice(fault.word));
 }
 
 /// Shows the line at fault, or the last one if the stream ended too soon.
 fn show_fault(
-    out: &mut Vec<u8>,
+    out: &mut Text,
     alloc: Global,
     names: &Names,
     source: &Source<'_>,
     fault: StreamFault,
-) -> Result<(), AllocError> {
+) {
     if fault.word == StreamWord::Unended {
         if fault.line <= 1 {
-            return say(out, "The stream is empty.\n");
+            out.say("The stream is empty.\n");
+            return;
         }
-        say(out, "Its last line is this one. ")?;
+        out.say("Its last line is this one. ");
         let last = fault.line.saturating_sub(1);
-        return show_numbered(out, source, last, line_at(source.bytes, last), None);
+        out.show_numbered(source, last, line_at(source.bytes, last), None);
+        return;
     }
     if fault.word == StreamWord::StreamTooLong {
-        return Ok(());
+        return;
     }
     let line = line_at(source.bytes, fault.line);
-    let process = match joined_name(alloc, source.bytes)? {
-        Some(name) => names.find(&name),
-        None => None,
+    let process = match out.given(joined_name(alloc, source.bytes)) {
+        Some(Some(name)) => names.find(&name),
+        _ => None,
     };
-    let place = place_in_record(alloc, names, process, line, fault.word)?;
-    show_numbered(out, source, fault.line, line, place)
+    let Some(place) = out.given(place_in_record(alloc, names, process, line, fault.word)) else {
+        return;
+    };
+    out.show_numbered(source, fault.line, line, place);
 }
 
 /// Says which processes or variables there are in place of a name that there isn't.
-fn say_known(
-    out: &mut Vec<u8>,
-    names: &Names,
-    process: Option<usize>,
-    word: StreamWord,
-) -> Result<(), AllocError> {
+fn say_known(out: &mut Text, names: &Names, process: Option<usize>, word: StreamWord) {
     if word == StreamWord::UnknownProcess {
-        say(out, "Expected here: a process of the document, which has ")?;
-        say_processes(out, names)?;
-        return say(out, ".\n");
+        out.say("Expected here: a process of the document, which has ");
+        say_processes(out, names);
+        out.say(".\n");
+        return;
     }
     match process {
         Some(process) if word == StreamWord::UnknownVar => {
-            say(out, "Expected here: a variable of process ")?;
-            say_name(out, name_at(names, process))?;
-            say(out, ", which has ")?;
-            say_vars(out, names, process)?;
-            say(out, ".\n")
+            out.say("Expected here: a variable of process ");
+            out.say_name(name_at(names, process));
+            out.say(", which has ");
+            say_vars(out, names, process);
+            out.say(".\n");
         }
-        _ => Ok(()),
+        _ => (),
+    }
+}
+
+/// Says which process is near to the one of this name, which there isn't.
+fn say_near_process(out: &mut Text, alloc: Global, names: &Names, name: &str) {
+    if let Some(known) = out.given(process_texts(alloc, names)) {
+        let _ = say_near(out, alloc, name, &known, "");
+    }
+}
+
+/// Says which variable of this process is near to the one of this name, which there isn't.
+fn say_near_var(out: &mut Text, alloc: Global, names: &Names, process: usize, name: &str) {
+    if let Some(known) = out.given(var_texts(alloc, names, process)) {
+        let _ = say_near(out, alloc, name, &known, "");
+    }
+}
+
+/// Says which field is near to the one of this name, if it is none.
+fn say_near_field(out: &mut Text, alloc: Global, name: &str) {
+    if !FIELDS.iter().any(|field| *field == name) {
+        let _ = say_near(out, alloc, name, &FIELDS, "");
     }
 }
 
 /// Says which name is near to the one in this line that there isn't, or which field.
 fn say_meant(
-    out: &mut Vec<u8>,
+    out: &mut Text,
     alloc: Global,
     names: &Names,
     process: Option<usize>,
     line: &[u8],
     word: StreamWord,
-) -> Result<(), AllocError> {
-    let Some(name) = name_in_record(alloc, names, process, line, word)? else {
-        return Ok(());
+) {
+    let Some(Some(name)) = out.given(name_in_record(alloc, names, process, line, word)) else {
+        return;
     };
-    let _ = match word {
-        StreamWord::UnknownProcess => {
-            say_near(out, alloc, &name, &process_texts(alloc, names)?, "")?
+    match (word, process) {
+        (StreamWord::UnknownProcess, _) => say_near_process(out, alloc, names, &name),
+        (StreamWord::UnknownVar, Some(process)) => {
+            say_near_var(out, alloc, names, process, &name);
         }
-        StreamWord::UnknownVar => match process {
-            Some(process) => say_near(out, alloc, &name, &var_texts(alloc, names, process)?, "")?,
-            None => false,
-        },
-        StreamWord::Shape => {
-            !FIELDS.iter().any(|field| *field == name.as_str())
-                && say_near(out, alloc, &name, &FIELDS, "")?
-        }
-        _ => false,
-    };
-    Ok(())
+        (StreamWord::Shape, _) => say_near_field(out, alloc, &name),
+        _ => (),
+    }
 }
 
 /// Says what there is in place of a name in this line that there isn't, and what may have been meant.
-///
-/// # Errors
-/// Out of memory; what was put until then stays.
 pub(crate) fn say_instead(
-    out: &mut Vec<u8>,
+    out: &mut Text,
     alloc: Global,
     names: &Names,
     process: Option<&str>,
     line: &[u8],
     word: StreamWord,
-) -> Result<(), AllocError> {
+) {
     let process = process.and_then(|name| names.find(name));
-    say_known(out, names, process, word)?;
-    say_meant(out, alloc, names, process, line, word)
+    say_known(out, names, process, word);
+    say_meant(out, alloc, names, process, line, word);
 }
 
 /// Says what a file is that isn't a stream, and what to do, if that is clear. It gives whether it is.
-fn say_other_file(
-    out: &mut Vec<u8>,
-    alloc: Global,
-    bytes: &[u8],
-    word: StreamWord,
-) -> Result<bool, AllocError> {
+fn say_other_file(out: &mut Text, alloc: Global, bytes: &[u8], word: StreamWord) -> bool {
     if word != StreamWord::Json && word != StreamWord::Shape {
-        return Ok(false);
+        return false;
     }
     if let Some(kind) = kind_of(bytes) {
-        say(out, said_of(kind))?;
-        return Ok(true);
+        out.say(said_of(kind));
+        return true;
     }
-    if !is_document(alloc, bytes)? {
-        return Ok(false);
+    if out.given(is_document(alloc, bytes)) != Some(true) {
+        return false;
     }
-    say(
-        out,
+    out.say(
         "It is a session document, and no stream.\nWhat to do: give the document first, and then the streams.\n",
-    )?;
-    Ok(true)
+    );
+    true
 }
 
 /// Explains why this stream is refused: what the fault means, the line with a caret below the place, as far as that is
 /// sure, in which order streams count, what is expected there, and what to do.
-///
-/// # Errors
-/// Out of memory; what was put until then stays.
 pub fn explain_stream(
-    out: &mut Vec<u8>,
+    out: &mut Text,
     alloc: Global,
     names: &Names,
     stream: SeenStream<'_>,
     order: &str,
     fault: StreamFault,
-) -> Result<(), AllocError> {
+) {
     let Some(source) = stream.source else {
-        return explain_stream_word(out, fault, stream.file, order);
+        explain_stream_word(out, fault, stream.file, order);
+        return;
     };
-    let joined = joined_name(alloc, source.bytes)?;
+    let Some(joined) = out.given(joined_name(alloc, source.bytes)) else {
+        return;
+    };
     let process = joined.as_deref();
-    say_head(out, fault, stream.file, process)?;
-    show_fault(out, alloc, names, &source, fault)?;
+    say_head(out, fault, stream.file, process);
+    show_fault(out, alloc, names, &source, fault);
     let line = line_at(source.bytes, fault.line);
-    say_instead(out, alloc, names, process, line, fault.word)?;
-    say(out, order)?;
-    if say_other_file(out, alloc, source.bytes, fault.word)? {
-        return Ok(());
+    say_instead(out, alloc, names, process, line, fault.word);
+    out.say(order);
+    if say_other_file(out, alloc, source.bytes, fault.word) {
+        return;
     }
-    say_advice(out, expected(fault.word), advice(fault.word))
+    out.say_advice(expected(fault.word), advice(fault.word));
 }

@@ -7,9 +7,8 @@ use super::advice::{expected, session_advice, stream_advice};
 use super::outcome::{InferOutcome, Reason};
 use app_ends::{put_fault, rows_of};
 use app_host::{REFUSED, SUCCESS, System, World, report_fault, write_line};
-use app_text::{Source, line_at, say_advice, show_numbered};
+use app_text::{Source, Text, line_at};
 use judge_session::EngineFault;
-use std::alloc::AllocError;
 use std::io::Write;
 
 /// The exit status by how a run ended that infers a document, which is reported if none is written.
@@ -35,54 +34,49 @@ pub fn report_infer<E: Write>(end: &Result<InferOutcome, EngineFault>, errors: &
 
 /// Shows the line of this number of the stream at this place, if what was read of the stream is noted.
 fn show_fault<Y: System>(
-    out: &mut Vec<u8>,
+    out: &mut Text,
     world: &World<'_, Y>,
     name: &str,
     place: usize,
     number: u64,
-) -> Result<(), AllocError> {
+) {
     let Some(note) = world.notes.stream(place) else {
-        return Ok(());
+        return;
     };
     let Some(bytes) = note.bytes() else {
-        return Ok(());
+        return;
     };
     let source = Source {
         name,
         bytes,
         before: 0,
     };
-    show_numbered(out, &source, number, line_at(bytes, number), None)
+    out.show_numbered(&source, number, line_at(bytes, number), None);
 }
 
 /// Explains why streams have no document: which line is at fault, and what to do.
-fn put_reason<Y: System>(
-    out: &mut Vec<u8>,
-    world: &World<'_, Y>,
-    names: &[&str],
-    reason: Reason,
-) -> Result<(), AllocError> {
+fn put_reason<Y: System>(out: &mut Text, world: &World<'_, Y>, names: &[&str], reason: Reason) {
     match reason {
         Reason::Stream(place, fault) => {
             if let (Some(name), Some(number)) = (names.get(place), fault.line) {
-                show_fault(out, world, name, place, number)?;
+                show_fault(out, world, name, place, number);
             }
-            say_advice(out, expected(fault.wrong), stream_advice(fault.wrong))
+            out.say_advice(expected(fault.wrong), stream_advice(fault.wrong));
         }
-        Reason::Session(fault) => say_advice(out, "", session_advice(fault)),
+        Reason::Session(fault) => out.say_advice("", session_advice(fault)),
     }
 }
 
 /// Explains how a run ended that infers a document.
 fn put_infer<Y: System>(
-    out: &mut Vec<u8>,
+    out: &mut Text,
     world: &World<'_, Y>,
     names: &[&str],
     end: &Result<InferOutcome, EngineFault>,
-) -> Result<(), AllocError> {
+) {
     match end {
         Ok(outcome) => match outcome {
-            InferOutcome::Written => Ok(()),
+            InferOutcome::Written => (),
             InferOutcome::Refused(reason, _) => put_reason(out, world, names, *reason),
         },
         Err(fault) => put_fault(out, world, None, "", names, fault),
@@ -96,9 +90,9 @@ pub fn infer_text<Y: System>(
     names: &[&str],
     end: &Result<InferOutcome, EngineFault>,
 ) -> Vec<u8> {
-    let mut out = Vec::new(world.alloc);
+    let mut out = Text::new(world.alloc);
     if world.explain {
-        let _ = put_infer(&mut out, world, names, end);
+        put_infer(&mut out, world, names, end);
     }
     rows_of(world.alloc, out)
 }

@@ -6,10 +6,9 @@ ghost use Rattle.std.specs.Prelude.{◌≡◌};
 use super::outcome::{LineWrong, MergeOutcome};
 use app_ends::{put_fault, rows_of};
 use app_host::{ALARMED, REFUSED, SUCCESS, System, World, report_fault, write_line};
-use app_text::{say, say_advice};
+use app_text::Text;
 use judge_session::EngineFault;
 use judge_summary::Conclusion;
-use std::alloc::AllocError;
 use std::io::Write;
 
 /// The exit status by what comes of the runs that a summary counts.
@@ -45,16 +44,14 @@ pub fn report_merge<E: Write>(end: &Result<MergeOutcome, EngineFault>, errors: &
 }
 
 /// What was expected in place of a line that is at fault, and what to do.
-fn put_wrong(out: &mut Vec<u8>, wrong: LineWrong) -> Result<(), AllocError> {
+fn put_wrong(out: &mut Text, wrong: LineWrong) {
     match wrong {
-        LineWrong::Shape => say_advice(
-            out,
+        LineWrong::Shape => out.say_advice(
             "an answer or an error as `monitor batch` writes it, or a summary as `monitor merge` does: one JSON object \
 on each line.",
             "give such lines alone, as in `monitor batch < SESSIONS | monitor merge`.",
         ),
-        LineWrong::Overflow => say_advice(
-            out,
+        LineWrong::Overflow => out.say_advice(
             "sums of at most 18446744073709551615.",
             "merge fewer summaries at a time, and keep their lines as they are.",
         ),
@@ -63,15 +60,14 @@ on each line.",
 
 /// Explains how a run ended that merges lines.
 fn put_merge<Y: System>(
-    out: &mut Vec<u8>,
+    out: &mut Text,
     world: &World<'_, Y>,
     end: &Result<MergeOutcome, EngineFault>,
-) -> Result<(), AllocError> {
+) {
     match end {
-        Ok(MergeOutcome::Written(_)) => Ok(()),
+        Ok(MergeOutcome::Written(_)) => (),
         Ok(MergeOutcome::Refused(_, wrong, _)) => put_wrong(out, *wrong),
-        Err(EngineFault::Read) => say(
-            out,
+        Err(EngineFault::Read) => out.say(
             "Standard input can't be read: give lines of `monitor batch`, or summaries, as in \
 `monitor merge < FILE`.\n",
         ),
@@ -84,9 +80,9 @@ pub fn merge_text<Y: System>(
     world: &World<'_, Y>,
     end: &Result<MergeOutcome, EngineFault>,
 ) -> Vec<u8> {
-    let mut out = Vec::new(world.alloc);
+    let mut out = Text::new(world.alloc);
     if world.explain {
-        let _ = put_merge(&mut out, world, end);
+        put_merge(&mut out, world, end);
     }
     rows_of(world.alloc, out)
 }

@@ -1,10 +1,10 @@
 //! Reports that a bundle can't be read, or is none.
 use app_explain::{explain_bundle_fault, explain_memory};
 use app_host::{MISUSED, report_fault, write_line};
-use app_text::in_rows;
+use app_text::{Text, in_rows};
 use judge_session::EngineFault;
 use read_bundle::BundleFault;
-use std::alloc::{AllocError, Global};
+use std::alloc::Global;
 use std::io::Write;
 
 /// What is explained of an input that has no separator.
@@ -17,7 +17,7 @@ the streams after the -.\n";
 const UNDIVIDED_LINE: &[u8] = b"monitor: no line --- in the bundle\n";
 
 /// Explains why the bundle wasn't read.
-fn explain_unread(out: &mut Vec<u8>, fault: BundleFault) -> Result<(), AllocError> {
+fn explain_unread(out: &mut Text, fault: BundleFault) {
     match fault {
         BundleFault::Memory => explain_memory(out),
         BundleFault::Read => explain_bundle_fault(out, false),
@@ -52,9 +52,9 @@ pub fn report_unread<E: Write>(
     errors: &mut E,
 ) -> u8 {
     if explain {
-        let mut out = Vec::new(alloc);
-        let _ = explain_unread(&mut out, fault);
-        write_rows(alloc, &out, errors);
+        let mut out = Text::new(alloc);
+        explain_unread(&mut out, fault);
+        write_rows(alloc, out.bytes(), errors);
     }
     report_fault(&EngineFault::from(fault), errors)
 }

@@ -2,8 +2,8 @@
 use super::progress::Progress;
 use super::screen::clear;
 use app_host::write_line;
-use app_text::{in_rows, say, say_number};
-use std::alloc::{AllocError, Global};
+use app_text::{Text, in_rows};
+use std::alloc::Global;
 use std::io::{Eprint, Write};
 use std::sync::atomic::Ordering;
 use std::time::Duration;
@@ -66,103 +66,86 @@ impl Limited {
 }
 
 /// Says how many bytes, in megabytes.
-fn say_megabytes(out: &mut Vec<u8>, bytes: u64) -> Result<(), AllocError> {
-    say_number(out, bytes / TENTH / 10)?;
-    say(out, ".")?;
-    say_number(out, bytes / TENTH % 10)
+fn say_megabytes(out: &mut Text, bytes: u64) {
+    out.say_number(bytes / TENTH / 10);
+    out.say(".");
+    out.say_number(bytes / TENTH % 10);
 }
 
 /// Says that files were read, and how far.
-fn say_reading(out: &mut Vec<u8>, progress: &Progress) -> Result<(), AllocError> {
+fn say_reading(out: &mut Text, progress: &Progress) {
     let read = progress.read.load(Ordering::SeqCst);
     let whole = progress.whole.load(Ordering::SeqCst);
-    say(out, "The files were being read: ")?;
-    say_megabytes(out, read)?;
+    out.say("The files were being read: ");
+    say_megabytes(out, read);
     if whole >= read {
-        say(out, " of ")?;
-        say_megabytes(out, whole)?;
+        out.say(" of ");
+        say_megabytes(out, whole);
     }
-    say(
-        out,
+    out.say(
         " MB.\nWhat to do: give it more time, or shorter streams; a pipe that stays open is waited for.\n",
-    )
+    );
 }
 
 /// Says to which level a walk had come.
-fn say_level(out: &mut Vec<u8>, progress: &Progress) -> Result<(), AllocError> {
+fn say_level(out: &mut Text, progress: &Progress) {
     let level = progress.level.load(Ordering::SeqCst);
-    say(out, "A walk up the levels had come to level ")?;
-    say_number(out, level.saturating_sub(1))?;
-    say(out, " of ")?;
-    say_number(out, progress.last.load(Ordering::SeqCst))?;
-    say(out, ", which has ")?;
-    say_number(out, progress.cuts.load(Ordering::SeqCst))?;
-    say(
-        out,
+    out.say("A walk up the levels had come to level ");
+    out.say_number(level.saturating_sub(1));
+    out.say(" of ");
+    out.say_number(progress.last.load(Ordering::SeqCst));
+    out.say(", which has ");
+    out.say_number(progress.cuts.load(Ordering::SeqCst));
+    out.say(
         " cuts.\nWhat to do: give it more time, or more --workers; or a smaller --width, by which what needs wide \
 levels stays unknown; or ask less at once, by --ask. With --beyond-width many predicates need no level.\n",
-    )
+    );
 }
 
 /// Says which predicate was being answered beyond the width.
-fn say_predicate(out: &mut Vec<u8>, progress: &Progress) -> Result<(), AllocError> {
-    say(out, "Predicate ")?;
-    say_number(out, progress.predicate.load(Ordering::SeqCst))?;
-    say(out, " of ")?;
-    say_number(out, progress.predicates.load(Ordering::SeqCst))?;
-    say(
-        out,
+fn say_predicate(out: &mut Text, progress: &Progress) {
+    out.say("Predicate ");
+    out.say_number(progress.predicate.load(Ordering::SeqCst));
+    out.say(" of ");
+    out.say_number(progress.predicates.load(Ordering::SeqCst));
+    out.say(
         " was being answered beyond the width.\nWhat to do: give it more time, or ask less at once, by --ask.\n",
-    )
+    );
 }
 
 /// Says what is done once all is read, before a level is walked or a predicate is answered beyond the width.
-fn say_between(
-    out: &mut Vec<u8>,
-    limited: &Limited,
-    progress: &Progress,
-) -> Result<(), AllocError> {
-    say(
-        out,
-        if progress.read.load(Ordering::SeqCst) == 0 {
-            "Nothing was read yet.\nWhat to do: give it more time; a pipe to which nobody writes is waited for.\n"
-        } else if limited.is_served {
-            "No level was walked yet: the streams were waited for or read, or the predicates were being answered.\n\
+fn say_between(out: &mut Text, limited: &Limited, progress: &Progress) {
+    out.say(if progress.read.load(Ordering::SeqCst) == 0 {
+        "Nothing was read yet.\nWhat to do: give it more time; a pipe to which nobody writes is waited for.\n"
+    } else if limited.is_served {
+        "No level was walked yet: the streams were waited for or read, or the predicates were being answered.\n\
 What to do: give it more time, and --wait for streams that may not come.\n"
-        } else {
-            "All that is read first was read, and no level was being walked yet.\nWhat to do: give it more time, or \
+    } else {
+        "All that is read first was read, and no level was being walked yet.\nWhat to do: give it more time, or \
 ask less at once, by --ask.\n"
-        },
-    )
+    });
 }
 
 /// Explains that the time is over: what was being done, and what to do.
-fn explain_time(
-    out: &mut Vec<u8>,
-    limited: &Limited,
-    progress: &Progress,
-) -> Result<(), AllocError> {
-    say(out, "The time of --max-time is over, ")?;
-    say_number(out, limited.seconds)?;
-    say(out, " s.\n")?;
-    say(
-        out,
-        if limited.is_test {
-            "The lines of the runs that were judged are written, and a last line says that there are no more.\n"
-        } else if limited.is_by_lines {
-            "The lines of what was done until then are written, and no others.\n"
-        } else {
-            "Nothing is written to the standard output.\n"
-        },
-    )?;
-    if progress.level.load(Ordering::SeqCst) > 0 {
-        say_level(out, progress)
-    } else if progress.predicate.load(Ordering::SeqCst) > 0 {
-        say_predicate(out, progress)
-    } else if progress.open.load(Ordering::SeqCst) > 0 {
-        say_reading(out, progress)
+fn explain_time(out: &mut Text, limited: &Limited, progress: &Progress) {
+    out.say("The time of --max-time is over, ");
+    out.say_number(limited.seconds);
+    out.say(" s.\n");
+    out.say(if limited.is_test {
+        "The lines of the runs that were judged are written, and a last line says that there are no more.\n"
+    } else if limited.is_by_lines {
+        "The lines of what was done until then are written, and no others.\n"
     } else {
-        say_between(out, limited, progress)
+        "Nothing is written to the standard output.\n"
+    });
+    if progress.level.load(Ordering::SeqCst) > 0 {
+        say_level(out, progress);
+    } else if progress.predicate.load(Ordering::SeqCst) > 0 {
+        say_predicate(out, progress);
+    } else if progress.open.load(Ordering::SeqCst) > 0 {
+        say_reading(out, progress);
+    } else {
+        say_between(out, limited, progress);
     }
 }
 
@@ -176,9 +159,9 @@ pub(crate) fn report_time<R: Eprint, E: Write>(
 ) {
     clear(rt, progress);
     if limited.explain {
-        let mut out = Vec::new(alloc);
-        let _ = explain_time(&mut out, limited, progress);
-        if let Ok(rows) = in_rows(alloc, &out) {
+        let mut out = Text::new(alloc);
+        explain_time(&mut out, limited, progress);
+        if let Ok(rows) = in_rows(alloc, out.bytes()) {
             let _ = errors.write_all(&rows);
         }
     }

@@ -10,7 +10,7 @@ use app_explain::{
     explain_unbound, explain_unfiled, explain_unkept, explain_wait,
 };
 use app_host::{FileSource, Notes, System, World};
-use app_text::Source;
+use app_text::{Source, Text};
 use pd_engine::Spec;
 use pd_report::{Refusal, Report};
 use std::alloc::{AllocError, Global};
@@ -19,12 +19,17 @@ use std::sync::Wait;
 use std::thread::Threads;
 
 /// Explains that the file of the token can't be read, which place can't be bound, and why, or that a connection failed.
-fn put_network<F, N>(out: &mut Vec<u8>, host: &Host<'_, F, N>) -> Result<(), AllocError> {
+fn put_network<F, N>(out: &mut Text, host: &Host<'_, F, N>) {
     if let Some(why) = host.peers.unread_token() {
-        return explain_unread_token(out, why);
+        explain_unread_token(out, why);
+        return;
     }
-    let streams = streams_name(host)?;
-    let watchers = watchers_name(host)?;
+    let Some(streams) = out.given(streams_name(host)) else {
+        return;
+    };
+    let Some(watchers) = out.given(watchers_name(host)) else {
+        return;
+    };
     match host.peers.unbound() {
         Some((true, why)) => explain_unbound(out, watchers.shown(), why),
         Some((false, why)) => explain_unbound(out, streams.shown(), why),
@@ -33,7 +38,7 @@ fn put_network<F, N>(out: &mut Vec<u8>, host: &Host<'_, F, N>) -> Result<(), All
 }
 
 /// Explains that the session couldn't be kept, or the file of the port not be written.
-fn put_unkept<F, N>(out: &mut Vec<u8>, host: &Host<'_, F, N>) -> Result<(), AllocError> {
+fn put_unkept<F, N>(out: &mut Text, host: &Host<'_, F, N>) {
     match host.peers.unfiled() {
         Some(why) => explain_unfiled(out, why),
         None => explain_unkept(out, host.peers.unkept()),
@@ -47,34 +52,40 @@ fn spec_of<F, N>(host: &Host<'_, F, N>) -> Option<Spec> {
 }
 
 /// Explains that not all streams connected in time.
-fn put_wait<F, N>(out: &mut Vec<u8>, host: &Host<'_, F, N>) -> Result<(), AllocError> {
+fn put_wait<F, N>(out: &mut Text, host: &Host<'_, F, N>) {
     let service = host.service;
-    let place = streams_name(host)?;
-    let Some(spec) = spec_of(host) else {
-        return explain_connection(out, place.shown());
+    let Some(place) = out.given(streams_name(host)) else {
+        return;
     };
-    let known = known_senders(host.alloc, host.peers, host.peers.count())?;
-    let senders = senders(host.alloc, host.peers, &known)?;
+    let Some(spec) = spec_of(host) else {
+        explain_connection(out, place.shown());
+        return;
+    };
+    let Some(known) = out.given(known_senders(host.alloc, host.peers, host.peers.count())) else {
+        return;
+    };
+    let Some(senders) = out.given(senders(host.alloc, host.peers, &known)) else {
+        return;
+    };
     let seconds = service.wait.unwrap_or(0);
-    explain_wait(out, spec.names(), place.shown(), seconds, &senders)?;
-    say_strangers(out, host)
+    explain_wait(out, spec.names(), place.shown(), seconds, &senders);
+    say_strangers(out, host);
 }
 
 /// Explains why a stream is refused, and who sent it.
-fn put_stream<F, N>(
-    out: &mut Vec<u8>,
-    host: &Host<'_, F, N>,
-    fault: StreamFault,
-) -> Result<(), AllocError> {
-    let known = known_senders(host.alloc, host.peers, host.peers.count())?;
-    let senders = senders(host.alloc, host.peers, &known)?;
+fn put_stream<F, N>(out: &mut Text, host: &Host<'_, F, N>, fault: StreamFault) {
+    let Some(known) = out.given(known_senders(host.alloc, host.peers, host.peers.count())) else {
+        return;
+    };
+    let Some(senders) = out.given(senders(host.alloc, host.peers, &known)) else {
+        return;
+    };
     let spec = spec_of(host);
     let names = spec.as_ref().map(|spec| spec.names());
-    explain_sent_stream(out, host.alloc, names, fault, &senders)?;
+    explain_sent_stream(out, host.alloc, names, fault, &senders);
     if fault.word == StreamWord::Unended {
-        say_idle(out, host)?;
+        say_idle(out, host);
     }
-    Ok(())
 }
 
 /// What the stream at this place is called: by its file, if it is kept.
@@ -122,12 +133,12 @@ fn seen_streams<'a>(
 
 /// Explains the answers of a server's report, or why it is a refusal, by these streams.
 fn put_seen_report<'a, T: RandomSource + Threads + Wait + Sync, F: FileSource, N>(
-    out: &mut Vec<u8>,
+    out: &mut Text,
     rt: &T,
     host: &'a Host<'a, F, N>,
     streams: &'a [SeenStream<'a>],
     report: &Report,
-) -> Result<(), AllocError> {
+) {
     let seen = Seen {
         document: seen_document(host.notes, host.service.spec),
         options: Some(&host.service.options),
@@ -135,50 +146,54 @@ fn put_seen_report<'a, T: RandomSource + Threads + Wait + Sync, F: FileSource, N
         order: "Streams count in the order in which they connected.\n",
         notes: None,
     };
-    put_report(out, rt, host.alloc, seen, host.gate.widest(), report)?;
-    put_reasons(out, host.alloc, &host.service.fail_on, report)
+    put_report(out, rt, host.alloc, seen, host.gate.widest(), report);
+    put_reasons(out, host.alloc, &host.service.fail_on, report);
 }
 
 /// The same by what was read of the streams.
 fn put_service_report<T: RandomSource + Threads + Wait + Sync, F: FileSource, N>(
-    out: &mut Vec<u8>,
+    out: &mut Text,
     rt: &T,
     host: &Host<'_, F, N>,
     report: &Report,
-) -> Result<(), AllocError> {
+) {
     if let Report::Refused(Refusal::Stream { stream, line, word }) = report {
         let (stream, line) = (*stream, *line);
         return match StreamWord::of(word) {
             Some(word) => put_stream(out, host, StreamFault { stream, line, word }),
-            None => Ok(()),
+            None => (),
         };
     }
-    let names = stream_names(host)?;
-    let streams = seen_streams(host.alloc, host.notes, &names)?;
-    put_seen_report(out, rt, host, &streams, report)
+    let Some(names) = out.given(stream_names(host)) else {
+        return;
+    };
+    let Some(streams) = out.given(seen_streams(host.alloc, host.notes, &names)) else {
+        return;
+    };
+    put_seen_report(out, rt, host, &streams, report);
 }
 
 /// Says which predicate isn't there that is named.
-fn put_unknown<F, N>(out: &mut Vec<u8>, host: &Host<'_, F, N>) -> Result<(), AllocError> {
+fn put_unknown<F, N>(out: &mut Text, host: &Host<'_, F, N>) {
     match spec_of(host) {
         Some(spec) => put_unknown_condition(out, host.alloc, &spec, &host.service.fail_on),
-        None => Ok(()),
+        None => (),
     }
 }
 
 /// Explains how a server's run ended.
 fn put_service<Y: System>(
-    out: &mut Vec<u8>,
+    out: &mut Text,
     world: &World<'_, Y>,
     host: &Host<'_, Y::Files, Y::Network>,
     end: &Result<Option<Report>, ServiceFault>,
-) -> Result<(), AllocError> {
+) {
     match end {
         Ok(Some(report)) => put_service_report(out, world.rt, host, report),
         Ok(None) => put_unknown(out, host),
         Err(ServiceFault::Engine(fault)) => {
             let spec = host.service.spec;
-            put_fault(out, world, None, spec, &[], fault)
+            put_fault(out, world, None, spec, &[], fault);
         }
         Err(ServiceFault::Network) => put_network(out, host),
         Err(ServiceFault::Late) => put_wait(out, host),
@@ -192,9 +207,9 @@ pub fn service_text<Y: System>(
     host: &Host<'_, Y::Files, Y::Network>,
     end: &Result<Option<Report>, ServiceFault>,
 ) -> Vec<u8> {
-    let mut out = Vec::new(world.alloc);
+    let mut out = Text::new(world.alloc);
     if world.explain {
-        let _ = put_service(&mut out, world, host, end);
+        put_service(&mut out, world, host, end);
     }
     rows_of(world.alloc, out)
 }

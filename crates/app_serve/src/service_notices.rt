@@ -12,6 +12,7 @@ use app_explain::{
     tell_start, tell_stop, warn_of_open,
 };
 use app_host::{FileSource, Network, is_loopback};
+use app_text::Text;
 use judge_session::stream_word;
 use pd_engine::{Spec, StreamFault};
 use std::alloc::{AllocError, Global};
@@ -39,10 +40,10 @@ enum Event {
 }
 
 /// What is told of a stream that isn't kept any more.
-fn stop_text(alloc: Global, path: &str, error: &io::Error) -> Result<Vec<u8>, AllocError> {
+fn stop_text(alloc: Global, path: &str, error: &io::Error) -> Result<Text, AllocError> {
     let why = format!(in alloc; "{error}")?;
-    let mut out = Vec::new(alloc);
-    tell_stop(&mut out, path, &why)?;
+    let mut out = Text::new(alloc);
+    tell_stop(&mut out, path, &why);
     Ok(out)
 }
 
@@ -55,8 +56,8 @@ fn is_next(place: &Place<'_>) -> bool {
 }
 
 /// What is told of the places.
-fn places_text<F, N>(host: &Host<'_, F, N>, spec: &Spec) -> Result<Vec<u8>, AllocError> {
-    let mut out = Vec::new(host.alloc);
+fn places_text<F, N>(host: &Host<'_, F, N>, spec: &Spec) -> Result<Text, AllocError> {
+    let mut out = Text::new(host.alloc);
     let (place, other) = (streams_name(host)?, watchers_name(host)?);
     let watched = if is_next(&host.service.place) {
         None
@@ -69,7 +70,7 @@ fn places_text<F, N>(host: &Host<'_, F, N>, spec: &Spec) -> Result<Vec<u8>, Allo
         place.shown(),
         watched,
         host.service.watchers,
-    )?;
+    );
     Ok(out)
 }
 
@@ -82,13 +83,13 @@ fn is_open(place: &Place<'_>) -> bool {
 }
 
 /// The warning that others than this machine may connect.
-fn open_text<F, N>(host: &Host<'_, F, N>) -> Result<Vec<u8>, AllocError> {
-    let mut out = Vec::new(host.alloc);
+fn open_text<F, N>(host: &Host<'_, F, N>) -> Result<Text, AllocError> {
+    let mut out = Text::new(host.alloc);
     let place = streams_name(host)?;
     if let (PlaceName::Address(text), true) = (&place, host.service.admission.has_token()) {
-        return open_door_text(host.alloc, text.as_bytes());
+        return Ok(open_door_text(host.alloc, text.as_bytes()));
     }
-    warn_of_open(&mut out, place.shown())?;
+    warn_of_open(&mut out, place.shown());
     Ok(out)
 }
 
@@ -98,8 +99,8 @@ fn open_rows<F, N>(host: &Host<'_, F, N>) -> Option<Vec<u8>> {
         return None;
     }
     match open_text(host) {
-        Ok(text) => Some(rows_of(host.alloc, text)),
-        Err(_) => None,
+        Ok(text) if text.is_whole() => Some(rows_of(host.alloc, text)),
+        _ => None,
     }
 }
 
@@ -109,21 +110,21 @@ fn stream_text<F, N>(
     spec: &Spec,
     place: usize,
     event: Event,
-) -> Result<Vec<u8>, AllocError> {
+) -> Result<Text, AllocError> {
     let known = known_senders(host.alloc, host.peers, host.peers.count())?;
     let senders = senders(host.alloc, host.peers, &known)?;
-    let mut out = Vec::new(host.alloc);
+    let mut out = Text::new(host.alloc);
     if let Some(sender) = senders.get(place) {
         match event {
             Event::Connected => {
-                tell_connection(&mut out, *sender, spec.names().processes() as u64)?
+                tell_connection(&mut out, *sender, spec.names().processes() as u64)
             }
-            Event::Begun => tell_start(&mut out, spec.names(), *sender, &senders)?,
+            Event::Begun => tell_start(&mut out, spec.names(), *sender, &senders),
             Event::Refused(fault) => {
                 if let Some(word) = StreamWord::of(stream_word(fault.kind)) {
                     let (stream, line) = (sender.stream, fault.line);
                     let fault = NamedFault { stream, line, word };
-                    tell_refusal(&mut out, host.alloc, spec.names(), fault, *sender)?
+                    tell_refusal(&mut out, host.alloc, spec.names(), fault, *sender);
                 }
             }
         }
@@ -168,9 +169,9 @@ fn names_at<F, N>(
 }
 
 /// What is told, in rows, if explanations are wanted and it could be made.
-fn told_rows<F, N>(host: &Host<'_, F, N>, text: Result<Vec<u8>, AllocError>) -> Option<Vec<u8>> {
+fn told_rows<F, N>(host: &Host<'_, F, N>, text: Result<Text, AllocError>) -> Option<Vec<u8>> {
     match text {
-        Ok(text) if host.explain => Some(rows_of(host.alloc, text)),
+        Ok(text) if host.explain && text.is_whole() => Some(rows_of(host.alloc, text)),
         _ => None,
     }
 }
@@ -181,7 +182,7 @@ impl<'a, F, N: Network> ServiceNotices<'a, F, N> {
         if !self.host.service.admission.asks() {
             return;
         }
-        if let Some(rows) = told_rows(self.host, door_text(self.host)) {
+        if let Some(rows) = told_rows(self.host, Ok(door_text(self.host))) {
             self.host.network.tell(&rows);
         }
     }

@@ -6,10 +6,9 @@ ghost use Rattle.std.specs.Prelude.{◌≡◌};
 
 use app_ends::{put_fault, rows_of};
 use app_host::{ALARMED, REFUSED, SUCCESS, System, World, report_fault};
-use app_text::{say, say_advice, say_name, say_number, say_shown};
+use app_text::Text;
 use judge_runs::Conclusion;
 use judge_session::EngineFault;
-use std::alloc::AllocError;
 use std::io::Write;
 
 /// The exit status of a test that comes to this.
@@ -61,106 +60,95 @@ pub struct ResultsEnd<'a> {
 }
 
 /// Says where the pages of runs that fail are, if there are some.
-fn put_pages(out: &mut Vec<u8>, pages: PagesEnd<'_>) -> Result<(), AllocError> {
+fn put_pages(out: &mut Text, pages: PagesEnd<'_>) {
     match pages.folder {
         Some(folder) if pages.count > 0 => {
-            say(
-                out,
-                "Each run NAME that fails is explored on a page, NAME.html in the folder ",
-            )?;
-            say_name(out, folder)?;
-            say(out, ": there are ")?;
-            say_number(out, pages.count)?;
-            say(out, ".\n")
+            out.say("Each run NAME that fails is explored on a page, NAME.html in the folder ");
+            out.say_name(folder);
+            out.say(": there are ");
+            out.say_number(pages.count);
+            out.say(".\n");
         }
-        _ => Ok(()),
+        _ => (),
     }
 }
 
 /// Explains that not all pages could be written.
-fn put_unwritten(out: &mut Vec<u8>, pages: PagesEnd<'_>) -> Result<(), AllocError> {
-    say(out, "Not all pages of runs that fail are written. ")?;
+fn put_unwritten(out: &mut Text, pages: PagesEnd<'_>) {
+    out.say("Not all pages of runs that fail are written. ");
     if let Some(why) = pages.failure {
-        say_shown(out, why.as_bytes())?;
-        say(out, ".\n")?;
+        out.say_shown(why.as_bytes());
+        out.say(".\n");
     }
-    say_advice(
-        out,
+    out.say_advice(
         "a folder in which files can be written, or a name that nothing has yet in such a folder; and room for the \
 pages.",
         "give another folder after --pages, or make room.",
-    )?;
-    put_pages(out, pages)
+    );
+    put_pages(out, pages);
 }
 
 /// Says which file has the results of the runs in this form, if it was wanted.
-fn put_file(out: &mut Vec<u8>, form: &str, file: Option<&str>) -> Result<(), AllocError> {
+fn put_file(out: &mut Text, form: &str, file: Option<&str>) {
     let Some(name) = file else {
-        return Ok(());
+        return;
     };
-    say(out, "The results of the runs are written ")?;
-    say(out, form)?;
-    say(out, " into the file ")?;
-    say_name(out, name)?;
-    say(out, ".\n")
+    out.say("The results of the runs are written ");
+    out.say(form);
+    out.say(" into the file ");
+    out.say_name(name);
+    out.say(".\n");
 }
 
 /// Says where the results of the runs are, if there are files of them.
-fn put_files(out: &mut Vec<u8>, results: ResultsEnd<'_>) -> Result<(), AllocError> {
-    put_file(out, "as one JSON object", results.json)?;
-    put_file(out, "as a file of JUnit", results.junit)
+fn put_files(out: &mut Text, results: ResultsEnd<'_>) {
+    put_file(out, "as one JSON object", results.json);
+    put_file(out, "as a file of JUnit", results.junit);
 }
 
 /// Explains that not all files of results could be written.
-fn put_unwritten_files(out: &mut Vec<u8>, results: ResultsEnd<'_>) -> Result<(), AllocError> {
-    say(out, "Not all files of results are written. ")?;
+fn put_unwritten_files(out: &mut Text, results: ResultsEnd<'_>) {
+    out.say("Not all files of results are written. ");
     if let Some(why) = results.failure {
-        say_shown(out, why.as_bytes())?;
-        say(out, ".\n")?;
+        out.say_shown(why.as_bytes());
+        out.say(".\n");
     }
-    say_advice(
-        out,
-        "the name of a file in a folder in which files can be written, and room for it.",
+    out.say_advice(
+        "a file for each name, in a folder in which files can be written, and room for it.",
         "give another name after --json or --junit, or make room.",
-    )
+    );
 }
 
 /// Explains that pages or files of results couldn't be written.
-fn put_unwritten_beside(
-    out: &mut Vec<u8>,
-    pages: PagesEnd<'_>,
-    results: ResultsEnd<'_>,
-) -> Result<(), AllocError> {
+fn put_unwritten_beside(out: &mut Text, pages: PagesEnd<'_>, results: ResultsEnd<'_>) {
     if !pages.are_whole {
-        put_unwritten(out, pages)?;
+        put_unwritten(out, pages);
     }
     if !results.are_whole {
-        put_unwritten_files(out, results)?;
+        put_unwritten_files(out, results);
     }
-    Ok(())
 }
 
 /// Explains how a test ended, and says where pages and files of results are.
 fn put_test<Y: System>(
-    out: &mut Vec<u8>,
+    out: &mut Text,
     world: &World<'_, Y>,
     end: &Result<Conclusion, EngineFault>,
     pages: PagesEnd<'_>,
     results: ResultsEnd<'_>,
-) -> Result<(), AllocError> {
+) {
     match end {
         Ok(Conclusion::AllPass) => put_files(out, results),
         Ok(Conclusion::SomeFails | Conclusion::SomeNotJudged) => {
-            say(
-                out,
+            out.say(
                 "What to do: a run is explained by `monitor judge --explain --beyond-width RUN/session.json \
 RUN/*.stream`, and shown by `monitor explore --beyond-width` with the same files.\n",
-            )?;
-            put_pages(out, pages)?;
-            put_files(out, results)
+            );
+            put_pages(out, pages);
+            put_files(out, results);
         }
         Err(EngineFault::Write) if !pages.are_whole || !results.are_whole => {
-            put_unwritten_beside(out, pages, results)
+            put_unwritten_beside(out, pages, results);
         }
         Err(fault) => put_fault(out, world, None, "", &[], fault),
     }
@@ -174,9 +162,9 @@ pub fn test_text<Y: System>(
     pages: PagesEnd<'_>,
     results: ResultsEnd<'_>,
 ) -> Vec<u8> {
-    let mut out = Vec::new(world.alloc);
+    let mut out = Text::new(world.alloc);
     if world.explain {
-        let _ = put_test(&mut out, world, end, pages, results);
+        put_test(&mut out, world, end, pages, results);
     }
     rows_of(world.alloc, out)
 }

@@ -1,10 +1,9 @@
 -- What a cut at the first LF does to lines and records, and how the line of a place goes on.
-use Rattle.std.proofs.Common.{◌≡◌, ℕ, zero, suc, ◌+◌, ◌-◌, ◌<◌, ◌≤◌, Bool, true, false, cond, List, [], ◌∷◌, ◌++◌, length, get_or, take, drop, map, refl, sym, ◌∙◌, ap, add-one, drop-cons, length-drop, length-take, length-append, arith, Option, Some, None, unwrap_or}
+use Rattle.std.proofs.Common.{◌≡◌, ℕ, suc, ◌+◌, ◌-◌, ◌<◌, ◌≤◌, Bool, true, false, cond, List, [], ◌∷◌, ◌++◌, length, get_or, take, drop, map, refl, sym, ◌∙◌, ap, add-one, drop-cons, length-drop, length-take, length-append, arith, Option, Some, None, unwrap_or}
 use Rattle.std.specs.Prelude.{◌==◌, ◌||◌}
 use Rattle.std.proofs.lemmas.List.{take-append-drop, take_all, take_more, length_push}
 use Rattle.std.proofs.lemmas.Bool.{eqb-true, eq-eqb}
 use Rattle.std.proofs.lemmas.List.Sums.{count_by_more_no, count_by_more_yes, count_by-le-length}
-use Rattle.std.proofs.Math.Seq.{take-length}
 use Rattle.memchr.specs.Find.{IsFirstByte, is_byte}
 use Rattle.def_format.specs.Lines.{line, line_feed, has_line_feed, ended_lines, unended_line, as_line, all_lines, is_blank, numbered_from, line_number}
 use Rattle.def_format.proofs.FeedPlaces.{both_false, no_feed, no_feed_below, not_true}

@@ -2,4 +2,5 @@
 pub mod Lines
 pub mod Rows
 pub mod Shown
+pub mod Texts
 pub mod Window

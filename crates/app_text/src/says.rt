@@ -1,4 +1,4 @@
-//! Puts words, numbers and shown bytes to the text of an explanation.
+//! Puts words, numbers and shown bytes to the end of a text.
 ghost use Rattle.app_text.specs.Shown.{dots, hex_digit, is_plain, shown, shown_byte, shown_name, shown_text};
 ghost use Rattle.std.specs.Prelude.{◌≡◌, ◌<◌, ◌++◌, length, decimal, OnOk};
 
@@ -17,7 +17,7 @@ fn is_plain(byte: u8) -> bool
 }
 
 /// How many columns a shown byte takes: one if it is shown as it is, and four as `\xNN`.
-pub fn columns_of(byte: u8) -> usize
+pub(crate) fn columns_of(byte: u8) -> usize
     ensures { result ≡ length (shown_byte byte) }
 {
     if is_plain(byte) { 1 } else { 4 }
@@ -38,7 +38,7 @@ fn hex_digit(number: u8) -> u8
 ///
 /// # Errors
 /// Out of memory.
-pub fn say(out: &mut Vec<u8>, text: &str) -> Result<(), AllocError>
+pub(crate) fn put(out: &mut Vec<u8>, text: &str) -> Result<(), AllocError>
     ensures { OnOk result (out.new.items ≡ out.old.items ++ text.now) }
 {
     push_bytes(out, text.as_bytes())
@@ -48,7 +48,7 @@ pub fn say(out: &mut Vec<u8>, text: &str) -> Result<(), AllocError>
 ///
 /// # Errors
 /// Out of memory.
-pub fn say_number(out: &mut Vec<u8>, number: u64) -> Result<(), AllocError>
+pub(crate) fn put_number(out: &mut Vec<u8>, number: u64) -> Result<(), AllocError>
     ensures { OnOk result (out.new.items ≡ out.old.items ++ decimal number) }
 {
     push_number(out, number)
@@ -58,7 +58,7 @@ pub fn say_number(out: &mut Vec<u8>, number: u64) -> Result<(), AllocError>
 ///
 /// # Errors
 /// Out of memory.
-fn say_byte(out: &mut Vec<u8>, byte: u8) -> Result<(), AllocError>
+fn put_byte(out: &mut Vec<u8>, byte: u8) -> Result<(), AllocError>
     ensures { OnOk result (out.new.items ≡ out.old.items ++ shown_byte byte) }
 {
     if is_plain(byte) {
@@ -74,17 +74,17 @@ fn say_byte(out: &mut Vec<u8>, byte: u8) -> Result<(), AllocError>
 ///
 /// # Errors
 /// Out of memory.
-pub fn say_bytes(out: &mut Vec<u8>, bytes: &[u8]) -> Result<(), AllocError>
+pub(crate) fn put_bytes(out: &mut Vec<u8>, bytes: &[u8]) -> Result<(), AllocError>
     ensures { OnOk result (out.new.items ≡ out.old.items ++ shown bytes.now) }
 {
     for byte in bytes {
-        say_byte(out, *byte)?;
+        put_byte(out, *byte)?;
     }
     Ok(())
 }
 
 /// What stands for bytes that aren't shown.
-pub fn dots(is_cut: bool) -> &'static str
+pub(crate) fn dots(is_cut: bool) -> &'static str
     ensures { result.now ≡ dots is_cut }
 {
     if is_cut { "..." } else { "" }
@@ -94,11 +94,11 @@ pub fn dots(is_cut: bool) -> &'static str
 ///
 /// # Errors
 /// Out of memory.
-pub fn say_shown(out: &mut Vec<u8>, bytes: &[u8]) -> Result<(), AllocError>
+pub(crate) fn put_shown(out: &mut Vec<u8>, bytes: &[u8]) -> Result<(), AllocError>
     ensures { OnOk result (out.new.items ≡ out.old.items ++ shown_text bytes.now) }
 {
-    say_bytes(out, bytes_before(bytes, SHOWN_LIMIT))?;
-    say(out, dots(bytes.len() > SHOWN_LIMIT))?;
+    put_bytes(out, bytes_before(bytes, SHOWN_LIMIT))?;
+    put(out, dots(bytes.len() > SHOWN_LIMIT))?;
     Ok(())
 }
 
@@ -106,29 +106,11 @@ pub fn say_shown(out: &mut Vec<u8>, bytes: &[u8]) -> Result<(), AllocError>
 ///
 /// # Errors
 /// Out of memory.
-pub fn say_name(out: &mut Vec<u8>, name: &str) -> Result<(), AllocError>
+pub(crate) fn put_name(out: &mut Vec<u8>, name: &str) -> Result<(), AllocError>
     ensures { OnOk result (out.new.items ≡ out.old.items ++ shown_name name.now) }
 {
-    say(out, "`")?;
-    say_shown(out, name.as_bytes())?;
-    say(out, "`")?;
-    Ok(())
-}
-
-/// Puts what was expected, and what to do.
-///
-/// # Errors
-/// Out of memory.
-pub fn say_advice(out: &mut Vec<u8>, expected: &str, advice: &str) -> Result<(), AllocError> {
-    if !expected.is_empty() {
-        say(out, "Expected: ")?;
-        say(out, expected)?;
-        say(out, "\n")?;
-    }
-    if !advice.is_empty() {
-        say(out, "What to do: ")?;
-        say(out, advice)?;
-        say(out, "\n")?;
-    }
+    put(out, "`")?;
+    put_shown(out, name.as_bytes())?;
+    put(out, "`")?;
     Ok(())
 }

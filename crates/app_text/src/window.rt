@@ -4,7 +4,7 @@ ghost use Rattle.app_text.specs.Window.{IsFittingFirst, IsFittingLast, ShowsPlac
 ghost use Rattle.std.specs.Prelude.{◌≡◌, ◌+◌, ◌-◌, ◌^◌, List, ℕ, ◌++◌, length, drop, take, min, replicate, codes, MatchOption, OnOk};
 
 use super::lines::{bytes_before, bytes_from};
-use super::says::{columns_of, dots, say, say_bytes};
+use super::says::{columns_of, dots, put, put_bytes};
 use std::alloc::AllocError;
 
 /// How many columns before the place are shown.
@@ -57,20 +57,20 @@ fn columns_in(bytes: &[u8]) -> usize
 }
 
 /// Puts as many spaces as the bytes take columns.
-fn say_indent(out: &mut Vec<u8>, bytes: &[u8]) -> Result<(), AllocError>
+fn put_indent(out: &mut Vec<u8>, bytes: &[u8]) -> Result<(), AllocError>
     ensures { OnOk result (out.new.items ≡ out.old.items ++ replicate (columns bytes.now) 32) }
 {
     for byte in bytes {
-        say_width(out, *byte)?;
+        put_width(out, *byte)?;
     }
     Ok(())
 }
 
 /// Puts as many spaces as the byte takes columns.
-fn say_width(out: &mut Vec<u8>, byte: u8) -> Result<(), AllocError>
+fn put_width(out: &mut Vec<u8>, byte: u8) -> Result<(), AllocError>
     ensures { OnOk result (out.new.items ≡ out.old.items ++ replicate (length (shown_byte byte)) 32) }
 {
-    say(out, if columns_of(byte) == 1 { " " } else { "    " })
+    put(out, if columns_of(byte) == 1 { " " } else { "    " })
 }
 
 /// As many spaces as stand before the first byte that is shown, and dots.
@@ -81,19 +81,19 @@ fn margin(is_cut: bool) -> &'static str
 }
 
 /// Shows the first bytes of a line.
-fn show_start(out: &mut Vec<u8>, line: &[u8]) -> Result<(), AllocError>
+fn put_start(out: &mut Vec<u8>, line: &[u8]) -> Result<(), AllocError>
     ensures { OnOk result ((text : List ℕ) × ShowsStart line.now text × (out.new.items ≡ out.old.items ++ text)) }
 {
     let count = fitting_first(line, LIMIT);
-    say(out, "    ")?;
-    say_bytes(out, &line[..count])?;
-    say(out, dots(count < line.len()))?;
-    say(out, "\n")?;
+    put(out, "    ")?;
+    put_bytes(out, &line[..count])?;
+    put(out, dots(count < line.len()))?;
+    put(out, "\n")?;
     Ok(())
 }
 
 /// Puts these bytes before a place and those from it on, with dots where others are left out.
-fn say_window(
+fn put_window(
     out: &mut Vec<u8>,
     before: &[u8],
     after: &[u8],
@@ -103,28 +103,28 @@ fn say_window(
     ensures { OnOk result (out.new.items ≡ out.old.items ++ (codes "    " ++ dots is_cut ++ shown before.now
         ++ shown after.now ++ dots goes_on ++ codes "\n")) }
 {
-    say(out, "    ")?;
-    say(out, dots(is_cut))?;
-    say_bytes(out, before)?;
-    say_bytes(out, after)?;
-    say(out, dots(goes_on))?;
-    say(out, "\n")?;
+    put(out, "    ")?;
+    put(out, dots(is_cut))?;
+    put_bytes(out, before)?;
+    put_bytes(out, after)?;
+    put(out, dots(goes_on))?;
+    put(out, "\n")?;
     Ok(())
 }
 
 /// Puts a caret below the byte that comes after these, of which some may be left out.
-fn say_caret(out: &mut Vec<u8>, before: &[u8], is_cut: bool) -> Result<(), AllocError>
+fn put_caret(out: &mut Vec<u8>, before: &[u8], is_cut: bool) -> Result<(), AllocError>
     ensures { OnOk result (out.new.items ≡ out.old.items
         ++ (replicate (length (codes "    " ++ dots is_cut ++ shown before.now)) 32 ++ codes "^\n")) }
 {
-    say(out, margin(is_cut))?;
-    say_indent(out, before)?;
-    say(out, "^\n")?;
+    put(out, margin(is_cut))?;
+    put_indent(out, before)?;
+    put(out, "^\n")?;
     Ok(())
 }
 
 /// Shows the bytes before a place and those from it on, and a caret below the place.
-fn show_parts(out: &mut Vec<u8>, before: &[u8], after: &[u8]) -> Result<(), AllocError>
+fn put_parts(out: &mut Vec<u8>, before: &[u8], after: &[u8]) -> Result<(), AllocError>
     ensures { OnOk result ((text : List ℕ) × ShowsPlace before.now after.now text
         × (out.new.items ≡ out.old.items ++ text)) }
 {
@@ -132,14 +132,14 @@ fn show_parts(out: &mut Vec<u8>, before: &[u8], after: &[u8]) -> Result<(), Allo
     let shown_before = &before[skipped..];
     let count = fitting_first(after, LIMIT.saturating_sub(columns_in(shown_before)));
     let shown_after = &after[..count];
-    say_window(
+    put_window(
         out,
         shown_before,
         shown_after,
         skipped > 0,
         count < after.len(),
     )?;
-    say_caret(out, shown_before, skipped > 0)?;
+    put_caret(out, shown_before, skipped > 0)?;
     Ok(())
 }
 
@@ -148,15 +148,19 @@ fn show_parts(out: &mut Vec<u8>, before: &[u8], after: &[u8]) -> Result<(), Allo
 ///
 /// # Errors
 /// Out of memory.
-pub fn show_line(out: &mut Vec<u8>, line: &[u8], place: Option<usize>) -> Result<(), AllocError>
+pub(crate) fn put_line(
+    out: &mut Vec<u8>,
+    line: &[u8],
+    place: Option<usize>,
+) -> Result<(), AllocError>
     ensures { OnOk result ((text : List ℕ) × MatchOption place (ShowsStart line.now text)
         (λ at. ShowsPlace (take at line.now) (drop at line.now) text) × (out.new.items ≡ out.old.items ++ text)) }
 {
     match place {
         Some(place) => {
-            show_parts(out, bytes_before(line, place), bytes_from(line, place))?;
+            put_parts(out, bytes_before(line, place), bytes_from(line, place))?;
             Ok(())
         }
-        None => show_start(out, line),
+        None => put_start(out, line),
     }
 }
