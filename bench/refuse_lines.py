@@ -2,18 +2,21 @@
 
 A batch has three lines: a session, junk, and a session on which it is to fail; a job of its own judges each, or two
 judge them. Two folders are bundled, of which the second has no document. What such a batch writes is merged with its
-own summary. Three runs are tested, two side by side, and each has a page.
+own summary. Three runs are tested, two side by side, and each has a page; and once more with files of results.
 
 If memory is refused, the status is 4, with `monitor: memory`, and whole lines are left, the first ones; `merge` leaves
 none. If the input can't be read it is 3, with `monitor: read` and the same left, and if the output can't be written,
 3, with `monitor: write` and a prefix of the output. A file of a run that can't be opened or read is named in the line
 of this run, which is the only one that differs; or, once it was judged, its page is missing, as it is if that can't be
 written or renamed: then all lines are there, and all other pages, and the status is 3, with `monitor: write`. A page is
-whole, but for the lines of a file that can't be opened for these; what stands beside it as `.new` is a prefix of it."""
+whole, but for the lines of a file that can't be opened for these; what stands beside it as `.new` is a prefix of it.
+The same holds of files of results: each is whole, and says of the runs what the lines do; but if one can't be made when
+that is tried, before a run is judged, nothing is written."""
 import json
 import os
 import re
 import subprocess
+import xml.etree.ElementTree
 
 MEMORY, READ, WRITE = (f"monitor: {word}\n".encode() for word in ("memory", "read", "write"))
 # What a page says of the files and the lines of its events.
@@ -48,15 +51,15 @@ def output_of(words, given):
 def runs_of(program, folder, inputs, run):
     """Each run of these commands, as `refuse_each.runs_of` gives them: of the sessions in these folders, by their
     names, with the folder for what is made. `run` runs one; one that makes pages gives them too."""
-    def run_with_pages(arguments, given, own, number, kind):
-        pages = arguments[arguments.index("--pages") + 1]
-        for page in os.listdir(pages) if os.path.isdir(pages) else []:
-            os.unlink(os.path.join(pages, page))
-        if os.path.isdir(pages):
-            os.rmdir(pages)
+    def run_with_files(arguments, given, own, number, kind):
+        files = os.path.join(folder, "pages" if "--pages" in arguments else "results")
+        for name in os.listdir(files) if os.path.isdir(files) else []:
+            os.unlink(os.path.join(files, name))
+        if "--pages" in arguments and os.path.isdir(files):
+            os.rmdir(files)
         ended, made = run(arguments, given, own, number, kind)
-        names = os.listdir(pages) if os.path.isdir(pages) else []
-        return (*ended, {name: contents(os.path.join(pages, name)) for name in names}), made
+        names = os.listdir(files) if os.path.isdir(files) else []
+        return (*ended, {name: contents(os.path.join(files, name)) for name in names}), made
 
     empty = os.path.join(folder, "no document")
     os.makedirs(empty)
@@ -67,16 +70,21 @@ def runs_of(program, folder, inputs, run):
     answers = output_of(batch, three)
     lines = answers + output_of([program, "merge"], answers) + answers
     pages = ["--jobs", "2", "--pages", os.path.join(folder, "pages")]
+    results = [word for name in ("json", "junit") for word in (f"--{name}", os.path.join(folder, "results", name))]
+    os.mkdir(os.path.join(folder, "results"))
     return [("batch", run, batch, three), ("batch by two jobs", run, [*batch, "--jobs", "2"], three),
             ("bundle", run, [program, "bundle", paths[0], empty], b""), ("merge", run, [program, "merge"], lines),
             ("test", run, [program, "test", paths[0], empty, paths[1]], b""),
-            ("test with pages", run_with_pages, [program, "test", *pages, *paths, paths[0]], b"")]
+            ("test with pages", run_with_files, [program, "test", *pages, *paths, paths[0]], b""),
+            ("test with results", run_with_files, [program, "test", *results, paths[0], empty, paths[1]], b"")]
 
 
 def is_right(command, kind, ended, want):
     """Whether a run of this command that was refused a call ended as it may; what it gives with no refusal is
     `want`."""
-    if len(want) > 3 and not are_pages(kind, ended, want):
+    if len(want) > 3 and "junit" in want[3] and kind == "open" and ended == (3, b"", WRITE, {}):
+        return True  # a file of results couldn't be made when that was tried, and nothing is judged
+    if len(want) > 3 and not (are_results(ended, want) if "junit" in want[3] else are_pages(kind, ended, want)):
         return False
     if ended[:3] == want[:3]:
         return True
@@ -135,7 +143,8 @@ def is_tested(ended, want):
 
 
 def is_unpaged(kind, ended, want):
-    """Whether all lines are there, and a page couldn't be made; or the folder for them couldn't be, and nothing is."""
+    """Whether all lines are there, and a page or a file of results couldn't be made; or the folder for pages couldn't
+    be, and nothing is."""
     if (ended[0], ended[2]) != (3, WRITE):
         return False
     if ended[1] == b"":
@@ -155,6 +164,27 @@ def are_pages(kind, ended, want):
             return False
     failing = sum(b": fail: " in line for line in ended[1].partition(b"\nruns: ")[0].splitlines())
     return ended[0] not in (0, 1, 5) or len(ended[3]) == failing
+
+
+def are_results(ended, want):
+    """Whether each file of results says of the runs what their lines do, and both are there if nothing is said."""
+    lines, wanted = (it[1].partition(b"\nruns: ")[0].splitlines() for it in (ended, want))
+    texts = dict((name, text) for name, text in ended[3].items() if not name.endswith(".new"))
+    if lines == wanted:
+        begun = [(text, want[3][name.removesuffix(".new")]) for name, text in ended[3].items()]
+        if not all(whole.startswith(text) for text, whole in begun) or any(want[3][it] != texts[it] for it in texts):
+            return False
+    elif ended[0] in (0, 1, 5) and not are_lines(texts, [line.decode().partition(": ") for line in lines]):
+        return False
+    return ended[0] not in (0, 1, 5) or texts.keys() == want[3].keys()
+
+
+def are_lines(texts, lines):
+    """Whether files of results have the name of each run, and whether it passes."""
+    cases = xml.etree.ElementTree.fromstring(texts["junit"]).iter("testcase")
+    runs = [(run["name"], run["outcome"] == "pass") for run in json.loads(texts["json"])["runs"]]
+    wanted = [(name, text == "pass") for name, _, text in lines]
+    return runs == wanted and [(case.get("name"), len(case) == 0) for case in cases] == wanted
 
 
 def lacks_lines(page, whole):

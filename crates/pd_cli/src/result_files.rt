@@ -50,6 +50,41 @@ impl<'a> ResultFiles<'a> {
         }
     }
 
+    /// Tries whether a file can be made beside this name, as the one is that gets it once it is whole. If not, it is
+    /// noted why.
+    fn try_name<F: FileSource>(&mut self, files: &F, alloc: Global, name: &str) {
+        let Ok(new) = format!(in alloc; "{name}.new") else {
+            self.unwritten.note(alloc, name, "");
+            return;
+        };
+        let _ = files.remove(&new);
+        match files.create(&new) {
+            Ok(_) => {
+                let _ = files.remove(&new);
+            }
+            Err(error) => self.unwritten.note_error(alloc, name, &error),
+        }
+    }
+
+    /// Tries, before a run is judged, whether the files that are wanted can be written: each has a name of its own, and
+    /// can be made. If not, it is noted why. It gives whether they can.
+    pub(crate) fn try_names<F: FileSource>(&mut self, files: &F, alloc: Global) -> bool {
+        if let (Some(json), Some(junit)) = (self.json, self.junit) {
+            if json == junit {
+                self.unwritten
+                    .note(alloc, json, "it stands after --json and after --junit");
+                return false;
+            }
+        }
+        if let Some(name) = self.json {
+            self.try_name(files, alloc, name);
+        }
+        if let Some(name) = self.junit {
+            self.try_name(files, alloc, name);
+        }
+        self.are_whole()
+    }
+
     /// Writes this text into the file of this name, first under its name and `.new`, and then gives it its own: whoever
     /// opens it sees all of it, or what stood there before. What an earlier run of the program left under the other
     /// name goes. If it can't be written, it is noted why.

@@ -58,6 +58,16 @@ fn test_all<'a, Y: System, G: Gate + Sync, O: Write>(
     conclude(world.alloc, &tally, test.format, &texts.json, output)
 }
 
+/// Whether pages and files of results can be written, as far as it can be told before a run is judged: the files can be
+/// made, and then the folder for the pages is. If not, it is noted why.
+fn are_ready<Y: System>(
+    world: &World<'_, Y>,
+    pages: &mut Pages<'_>,
+    files: &mut ResultFiles<'_>,
+) -> bool {
+    files.try_names(world.files, world.alloc) && pages.make_folder(world.files, world.alloc)
+}
+
 /// Whether all pages and files of results are written that are wanted.
 fn are_whole(pages: &Pages<'_>, files: &ResultFiles<'_>) -> bool {
     pages.are_whole() && files.are_whole()
@@ -70,8 +80,8 @@ fn are_whole(pages: &Pages<'_>, files: &ResultFiles<'_>) -> bool {
 ///
 /// # Errors
 /// `Memory` leaves the lines of the first runs written. `Write` leaves a part of the text written, or all of it if only
-/// the last flush failed, or a page or a file of results couldn't be written; nothing, if the folder for the pages
-/// can't be made.
+/// the last flush failed, or a page or a file of results couldn't be written; nothing, if the folder for the pages or
+/// a file of results can't be made.
 pub(crate) fn test_files<'a, Y: System, G: Gate + Sync, O: Write>(
     world: &World<'_, Y>,
     test: &Test<'a>,
@@ -84,7 +94,7 @@ pub(crate) fn test_files<'a, Y: System, G: Gate + Sync, O: Write>(
         (wishes_view test.now.wishes.items) (format_view test.now.format) (names_view test.now.runs.items)
         (test_ending result) (O.contents output.old) (O.contents output.new) }
 {
-    if !pages.make_folder(world.files, world.alloc) {
+    if !are_ready(world, pages, files) {
         return Err(EngineFault::Write);
     }
     let end = test_all(world, test, gate, pages, files, output)?;

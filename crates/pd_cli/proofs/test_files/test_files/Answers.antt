@@ -5,8 +5,8 @@ use Rattle.pd_spec.specs.Views.{options_view}
 use Rattle.app_test.proofs.WrittenTests.{nothing_left, unwritten_beside}
 use Rattle.pd_cli.proofs.test_files.test_files.Goals as goal
 
-pub returns-then-not-make_folder : goal.returns-then-not-make_folder
-returns-then-not-make_folder g c =
+pub returns-then-not-are_ready : goal.returns-then-not-are_ready
+returns-then-not-are_ready g c =
     nothing_left (g.Y.Files.FileSource.file_of c.args.world.now.files.now) (options_view c.args.test.now.options)
     (wishes_view c.args.test.now.wishes.items) (format_view c.args.test.now.format)
     (names_view c.args.test.now.runs.items)
