@@ -57,6 +57,8 @@ SEEDS = 60
 # each program.
 GATE_SEEDS, GATE_SECONDS = 12, 7
 FOUND = "fuzz-found"
+# The statuses that a run may have; a sanitizer that says something ends it with another one.
+STATUSES, SAID = range(6), 99
 # So many of the inputs that were kept are given to the other programs, which may take so many seconds for each.
 KEPT, SECONDS = 200, 120
 
@@ -167,8 +169,8 @@ def fuzz(folder, target, seconds):
 
 def is_silent(folder, variant, target, path):
     """Whether a sanitizer says nothing of this input."""
-    more = {"ASAN_OPTIONS": "detect_leaks=0:exitcode=99", "TSAN_OPTIONS": "exitcode=99"}
-    return ends(folder, variant, target, path, more) in range(5)
+    more = {"ASAN_OPTIONS": f"detect_leaks=0:exitcode={SAID}", "TSAN_OPTIONS": f"exitcode={SAID}"}
+    return ends(folder, variant, target, path, more) in STATUSES
 
 
 def sanitize(folder, variant, target, queue, seconds):
