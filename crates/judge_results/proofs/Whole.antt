@@ -7,6 +7,7 @@ use Rattle.serde_json.specs.Written.{has_float, items_have_float}
 use Rattle.def_format.specs.Reports.{Answer, Judged, Refused}
 use Rattle.judge_runs.specs.Runs.{Outcome, Reported, Run, Unnamed, Unread}
 use Rattle.judge_runs.specs.Wishes.{Condition, is_broken}
+use Rattle.out_json.specs.JsonReports.{nowhere}
 use Rattle.out_json.proofs.Floats.{report_whole}
 use Rattle.judge_results.specs.Results.{broken_data, broken_datas, datas_by, judged_data, outcome_data, results_data, run_data}
 
@@ -44,7 +45,7 @@ outcome_whole : (wishes : List Condition) (name : List ℕ) (outcome : Outcome)
     → has_float (outcome_data wishes name outcome) ≡ false
 outcome_whole wishes name (Unread file) = refl
 outcome_whole wishes name (Unnamed predicate) = refl
-outcome_whole wishes name (Reported (Refused refusal)) = rw (report_whole [] (Refused refusal)) refl
+outcome_whole wishes name (Reported (Refused refusal)) = rw (report_whole [] nowhere (Refused refusal)) refl
 outcome_whole wishes name (Reported (Judged processes events messages answers)) =
     judged_whole name (broken_datas wishes answers) (broken_whole wishes answers)
 

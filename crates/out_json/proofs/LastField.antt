@@ -8,7 +8,7 @@ use Rattle.serde_json.specs.Written.{comma_if, compact_text, members_text}
 use Rattle.def_format.specs.Names.{ProcessNames}
 use Rattle.def_format.specs.Reports.{Answer, Report, Judged, Refused, spaced, refusal_words, answer_lines, report_lines, text_of_lines, report_text, IsLawful, AnswerIsLawful, possibly_words, definitely_words}
 use Rattle.def_format.proofs.OneReport.{Lacks, Plain, all-append, all-join, plain_lacks, plain_of_word, name_in_word, possibly_plain, definitely_plain, session_line, session_rest, refused_line, one_report_lem}
-use Rattle.out_json.specs.JsonReports.{json_of, json_text}
+use Rattle.out_json.specs.JsonReports.{Places, json_at, json_text_at}
 use Rattle.out_json.specs.ReportLaws.{JsonDeterminesText, TextDeterminesJson}
 use Rattle.out_json.proofs.Quotes.{EndsWith, one_last_string}
 
@@ -65,13 +65,13 @@ data_ends : (d : Data) (s : List ℕ) → LastOf s d → EndsWith s (compact_tex
 data_ends (object fields) s last = object_ends fields s last
 data_ends _ s last = absurd last
 
-ends_with_report : (names : List ProcessNames) (report : Report)
-    → EndsWith (report_text report) (compact_text (json_of names report))
-ends_with_report names (Judged processes events messages answers) =
-    data_ends (json_of names (Judged processes events messages answers))
+ends_with_report : (names : List ProcessNames) (places : Places) (report : Report)
+    → EndsWith (report_text report) (compact_text (json_at names places report))
+ends_with_report names places (Judged processes events messages answers) =
+    data_ends (json_at names places (Judged processes events messages answers))
     (report_text (Judged processes events messages answers)) refl
-ends_with_report names (Refused refusal) =
-    data_ends (json_of names (Refused refusal)) (report_text (Refused refusal)) refl
+ends_with_report names places (Refused refusal) =
+    data_ends (json_at names places (Refused refusal)) (report_text (Refused refusal)) refl
 
 -- ---- no quote stands in a lawful report's text
 
@@ -117,10 +117,11 @@ report_lacks report h = text_lacks (report_lines report) (lines_lack_quotes repo
 -- ---- the laws
 
 pub json_determines_text : JsonDeterminesText
-json_determines_text names others report other h k same =
-    one_last_string (report_text report) (report_text other) (compact_text (json_of names report))
-    (compact_text (json_of others other)) (report_lacks report h) (report_lacks other k)
-    (ends_with_report names report) (ends_with_report others other) same
+json_determines_text names others places elsewhere report other h k same =
+    one_last_string (report_text report) (report_text other) (compact_text (json_at names places report))
+    (compact_text (json_at others elsewhere other)) (report_lacks report h) (report_lacks other k)
+    (ends_with_report names places report) (ends_with_report others elsewhere other) same
 
 pub text_determines_json : TextDeterminesJson
-text_determines_json names report other h k same = ap (json_text names) (one_report_lem report other h k same)
+text_determines_json names places report other h k same =
+    ap (json_text_at names places) (one_report_lem report other h k same)

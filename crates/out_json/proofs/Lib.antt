@@ -1,6 +1,7 @@
 -- The modules of lemmas of this crate.
 pub mod Listed
 pub mod Counts
+pub mod Put
 pub mod NextEvents
 pub mod Floats
 pub mod Quotes

@@ -4,7 +4,7 @@ use Rattle.std.specs.Prelude.{flat_map}
 use Rattle.std.specs.List.{AllByRecursion}
 use Rattle.std.specs.Str.{bytes_eq}
 use Rattle.std.proofs.lemmas.Slice.Eq.{bytes_eq-Decides}
-use Rattle.out_json.specs.JsonReports.{Run, runs, runs_from}
+use Rattle.out_json.specs.JsonReports.{Run, runs_from}
 use Rattle.out_json.specs.ReportLaws.{run_events, AreApart, RunsAreThePath, RunsAreLongest}
 
 -- ---- the events

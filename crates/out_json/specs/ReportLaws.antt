@@ -5,22 +5,26 @@ use Rattle.serde_json.specs.Data.{string}
 use Rattle.serde_json.specs.Find.{get}
 use Rattle.def_format.specs.Names.{ProcessNames}
 use Rattle.def_format.specs.Reports.{Report, IsLawful, report_text}
-use Rattle.out_json.specs.JsonReports.{Run, json_of, json_text, runs}
+use Rattle.out_json.specs.JsonReports.{Places, Run, json_at, json_text_at, runs}
 
 -- the field `report` has the report's text
 abbrev pub HasReportText : Type 0
-HasReportText = (names : List ProcessNames) (report : Report)
-    → get (codes "report") (json_of names report) ≡ Some (string (report_text report))
+HasReportText = (names : List ProcessNames) (places : Places) (report : Report)
+    → get (codes "report") (json_at names places report) ≡ Some (string (report_text report))
 
--- The JSON text of a lawful report determines the report's text, whatever the processes are called.
+-- The JSON text of a lawful report determines the report's text, whatever the processes are called, and whatever is
+-- known of its cuts.
 abbrev pub JsonDeterminesText : Type 0
-JsonDeterminesText = (names others : List ProcessNames) (report other : Report) → IsLawful report → IsLawful other
-    → json_text names report ≡ json_text others other → report_text report ≡ report_text other
+JsonDeterminesText =
+    (names others : List ProcessNames) (places elsewhere : Places) (report other : Report)
+    → IsLawful report → IsLawful other
+    → json_text_at names places report ≡ json_text_at others elsewhere other → report_text report ≡ report_text other
 
--- The text of a lawful report determines its JSON text.
+-- The text of a lawful report determines its JSON text, with what is known of its cuts.
 abbrev pub TextDeterminesJson : Type 0
-TextDeterminesJson = (names : List ProcessNames) (report other : Report) → IsLawful report → IsLawful other
-    → report_text report ≡ report_text other → json_text names report ≡ json_text names other
+TextDeterminesJson =
+    (names : List ProcessNames) (places : Places) (report other : Report) → IsLawful report → IsLawful other
+    → report_text report ≡ report_text other → json_text_at names places report ≡ json_text_at names places other
 
 -- ---- runs
 

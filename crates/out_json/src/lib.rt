@@ -6,6 +6,7 @@
 //!
 //! - `json_report`: a report as a JSON value, and its text
 //! - `answers`: the answers, as JSON values
+//! - `places`: what is known of a cut, as JSON values
 //! - `runs`: an observation's events, by how many of one process follow one another
 //! - `refusals`: why a session is refused, as a JSON value
 //! - `texts`: what is UTF-8 in a report
@@ -13,6 +14,7 @@
 
 mod answers;
 mod json_report;
+mod places;
 mod refusals;
 mod runs;
 mod texts;
@@ -25,7 +27,8 @@ ghost use Rattle.out_json.specs.ReportLaws.{
   TextDeterminesJson,
 };
 
-pub use json_report::{json_text, report_value};
+pub use json_report::{json_text, json_text_at, report_value};
+pub use places::{Nowhere, Places, ProcessAt};
 
 /// The field `report` of a report's JSON object has the report's text, and of lawful reports the JSON text and the
 /// report's text determine each other.

@@ -5,13 +5,14 @@ use Rattle.serde_json.specs.View.{items_of}
 use Rattle.serde_json.specs.Written.{has_float, items_have_float}
 use Rattle.def_format.specs.Names.{ProcessNames}
 use Rattle.def_format.specs.Reports.{Report}
+use Rattle.out_json.specs.JsonReports.{nowhere}
 use Rattle.out_json.proofs.Floats.{report_whole}
 use Rattle.out_lines.specs.Lines.{answer_data, session_data}
 
 pub answer_whole : (id : Option (List ℕ)) (names : List ProcessNames) (report : Report) (status : ℕ)
     → has_float (answer_data id names report status) ≡ false
-answer_whole None names report status = rw (report_whole names report) refl
-answer_whole (Some id) names report status = rw (report_whole names report) refl
+answer_whole None names report status = rw (report_whole names nowhere report) refl
+answer_whole (Some id) names report status = rw (report_whole names nowhere report) refl
 
 texts_whole : (streams : List (List ℕ)) → items_have_float (items_of (map (λ stream. string stream) streams)) ≡ false
 texts_whole [] = refl

@@ -8,6 +8,7 @@ use Rattle.out_json.proofs.Listed.{all_seen}
 use Rattle.out_json.proofs.answers.answer_values.Goals as goal
 
 pub returns : goal.returns
-returns c =
-    all_seen view (answer_data c.args.names.now) answer_view c.loop-answer.values.items c.args.answers.now _
+returns g c =
+    all_seen view (answer_data c.args.names.now (g.P.Places.known c.args.places.now)) answer_view
+    c.loop-answer.values.items c.args.answers.now _
     c.loop-answer.invariant (take_all c.loop-answer.answer-index c.args.answers.now (omega arith))

@@ -6,5 +6,7 @@ use Rattle.out_json.specs.JsonReports.{answer_data}
 use Rattle.out_json.proofs.answers.answer_values.Given as goal
 
 abbrev pub invariant-loop-answer : goal.invariant-loop-answer
-invariant-loop-answer l =
-    map view l.values.items ≡ map (λ answer. answer_data l.names (answer_view answer)) (take l.answer-index l.answers)
+invariant-loop-answer g l =
+    map view l.values.items
+    ≡ map (λ answer. answer_data l.names (g.P.Places.known l.places) (answer_view answer))
+    (take l.answer-index l.answers)
