@@ -3,8 +3,9 @@
 it stands, and with a width of 1, --beyond-width and --fail-on, and compares that with what `judge` writes without it.
 It has to be one line, in the one form that docs/SPECIFICATION.md gives it, with the report's text in its field `report`
 and with the same status; and its other fields have to make that text again: the cut by its processes, the path by its
-runs, the refusal. Then all sessions in UTF-8 are judged by one `batch` for each of these ways, which has to give each of
-them the same object and status.
+runs, the refusal. What stands in `at` beside a cut has to be what the streams have: the lines of the last events in it,
+and the values there of the variables that the predicate names. Then all sessions in UTF-8 are judged by one `batch` for
+each of these ways, which has to give each of them the same object, without `at`, and the same status.
 
 With --schema it is looked instead whether docs/report.schema.json takes each line, of a path its first 50 runs, and
 refuses faults that are put into short ones. That needs the module jsonschema, Debian's python3-jsonschema, which is
@@ -20,6 +21,7 @@ import glob
 import itertools
 import json
 import os
+import re
 import subprocess
 import sys
 import tempfile
@@ -31,6 +33,7 @@ TOP = os.path.join(HERE, "..")
 WAYS = ([], ["--beyond-width", "--width", "1", "--fail-on", "unknown"])
 # Of a path so many runs are looked at by the schema, and faults are put into lines of so few bytes.
 RUNS, FAULTY = 50, 600
+VARIABLE = re.compile(r"([A-Za-z_][A-Za-z0-9_]*)\s*\.\s*([A-Za-z_][A-Za-z0-9_]*)")
 KINDS = {"possibly yes", "possibly no", "possibly unknown", "definitely yes", "definitely no", "definitely unknown",
          "document", "predicate", "streams", "stream", "absent", "match", "cycle"}
 
@@ -113,16 +116,63 @@ def kinds_of(found):
             for question in ("possibly", "definitely")}
 
 
-def look(document, text, as_json):
+def events_in(streams):
+    """For each process that a stream joins, the stream's name, and the numbers and the texts of the lines after the
+    join; the first of them are those of its events."""
+    found = {}
+    for number, stream in enumerate(streams, 1):
+        lines = [(at, line) for at, line in enumerate(data(stream).split(b"\n"), 1) if line.strip()]
+        process = json.loads(lines[0][1])["process"]
+        found[process] = f"stream-{number}", lines[1:]
+    return found
+
+
+def known_at(document, streams, text, cut):
+    """What is known of the processes at a cut of the predicate with this text."""
+    events, named, known = events_in(streams), set(VARIABLE.findall(text)), {}
+    for process in document["processes"]:
+        name, values = process["name"], dict(process["vars"])
+        file, lines = events[name]
+        for _, line in lines[:cut[name]]:
+            values.update(json.loads(line).get("set", {}))
+        known[name] = {"values": {var: value for var, value in values.items() if (name, var) in named}}
+        if cut[name]:
+            known[name].update(file=file, line=lines[cut[name] - 1][0])
+    return known
+
+
+def look_at_cuts(found, session):
+    """Takes what is known of cuts out of the object, and holds it against the streams."""
+    if found["outcome"] == "refused":
+        return
+    document = json.loads(data(session[1]))
+    for predicate, asked in zip(found["predicates"], document["predicates"]):
+        if "cut" in predicate["possibly"]:
+            wanted = known_at(document, session[2], asked["text"], predicate["possibly"]["cut"])
+            given = predicate["possibly"].pop("at", None)
+            if wanted != given:
+                differ(f"`at` of {predicate['name']}", json.dumps(wanted).encode(), json.dumps(given).encode())
+
+
+def without_at(report):
+    """The same line without what is known of cuts."""
+    found = json.loads(report)
+    for predicate in found.get("predicates", []):
+        predicate["possibly"].pop("at", None)
+    return json.dumps(found, sort_keys=True, separators=(",", ":"), ensure_ascii=False).encode()
+
+
+def look(session, text, as_json):
     """Compares the report as JSON with the one as text, and gives what it holds."""
     if (text[0], text[2]) != (as_json[0], as_json[2]):
         differ("the status and the errors", b"%d %b" % (text[0], text[2]), b"%d %b" % (as_json[0], as_json[2]))
     found = json.loads(as_json[1])
     # No space, the names in their order, none twice, one LF at the end.
     form = json.dumps(found, sort_keys=True, separators=(",", ":"), ensure_ascii=False) + "\n"
+    look_at_cuts(found, session)
     for what, wanted, given in (("its form", form.encode(), as_json[1]),
                                 ("`report`", text[1], found["report"].encode()),
-                                ("the text of its fields", text[1], text_of(found, document).encode())):
+                                ("the text of its fields", text[1], text_of(found, session[1]).encode())):
         if wanted != given:
             differ(what, wanted, given)
     return found
@@ -138,7 +188,9 @@ def faults_in(found):
     if found["outcome"] == "judged":
         yield {**found, "events": -1}
         yield {**found, "predicates": []}
-        for question, answer in (("possibly", {"answer": "yes", "level": 1}), ("definitely", {"answer": "no"})):
+        at = {"a": {"line": 1, "values": {}}}
+        for question, answer in (("possibly", {"answer": "yes", "level": 1}), ("definitely", {"answer": "no"}),
+                                 ("possibly", {"answer": "yes", "cut": {"a": 1}, "at": at})):
             changed = copy.deepcopy(found)
             changed["predicates"][0][question] = answer
             yield changed
@@ -179,7 +231,7 @@ def tried(program, look_by, session):
     kinds, wrong = collections.Counter(), []
     for words, text, as_json in reports(program, session, look_by is look):
         try:
-            kinds.update(kinds_of(look_by(session[1], text, as_json)))
+            kinds.update(kinds_of(look_by(session, text, as_json)))
         except (Differs, ValueError, KeyError, TypeError) as error:
             wrong.append(f"{session[0]}: {' '.join(words)} --format json: {type(error).__name__}: {error}")
     return kinds, wrong
@@ -208,7 +260,7 @@ def judged_by_batch(program, all_sessions):
             wrong.append(f"batch {' '.join(way)}: {len(answers)} lines of {len(held_lines)}, {written.stderr[:200]}")
         for (session, _), answer, (status, report, _) in zip(held_lines, answers, [ways[number] for ways in alone]):
             wanted = b'{"id":%b,"report":%b,"status":%d}' % (
-                json.dumps(session[0], ensure_ascii=False).encode(), report.rstrip(b"\n"), status)
+                json.dumps(session[0], ensure_ascii=False).encode(), without_at(report), status)
             if answer != wanted:
                 wrong.append(f"{session[0]}: batch {' '.join(way)}: {answer[:300]}, and wanted is {wanted[:300]}")
     return len(held_lines), wrong

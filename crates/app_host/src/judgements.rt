@@ -1,5 +1,5 @@
 //! Judges the session in files.
-ghost use Rattle.app_arguments.specs.Statuses.{OfNamed, SessionLeaves};
+ghost use Rattle.app_arguments.specs.Statuses.{OfNamed, OfStreams, SessionLeaves};
 ghost use Rattle.app_arguments.specs.Views.{format_view, session_view};
 ghost use Rattle.app_host.specs.Faults.{judgement_ending, named_ending};
 ghost use Rattle.app_host.specs.FileSources.{ReadLeaves};
@@ -56,27 +56,34 @@ fn judge_named<Y: System, R: ByteSource + Send + Drop, G: Gate + Sync, O: Write>
     inquiry: Inquiry<'_, '_, '_>,
     streams: Vec<R>,
     judgement: &Judgement<'_>,
-    format: Format,
     gate: &G,
     output: &mut O,
 ) -> Result<Option<Report>, EngineFault>
     requires { All (λ stream. R.has_ended stream ≡ false) streams.items }
-    ensures { ReadLeaves (OfNamed (fail_on_view judgement.now.fail_on) (OfFormat (format_view format)
-        (map R.left streams.items) (fail_on_view judgement.now.fail_on)) (inquiry_view inquiry.entry))
+    ensures { ReadLeaves (OfNamed (fail_on_view judgement.now.fail_on) (OfStreams (map R.left streams.items)
+        (fail_on_view judgement.now.fail_on)) (inquiry_view inquiry.entry))
         (named_ending (fail_on_view judgement.now.fail_on) result) (O.contents output.old) (O.contents output.new) }
 {
     if !has_named(world.alloc, inquiry, &judgement.fail_on)? {
         return Ok(None);
     }
     let workers = &judgement.workers;
-    match judge_read(world, inquiry, streams, workers, format, gate, output) {
+    match judge_read(
+        world,
+        inquiry,
+        streams,
+        workers,
+        Format::Plain,
+        gate,
+        output,
+    ) {
         Ok(report) => Ok(Some(report)),
         Err(fault) => Err(fault),
     }
 }
 
 /// Opens the files of a session, the document and then the streams, reads the document, looks up in it the predicates
-/// that are named, judges it, with what is asked, and the streams, writes the report in this format, and flushes the
+/// that are named, judges it, with what is asked, and the streams, writes the report, and flushes the
 /// output. It gives the report, or nothing if a predicate that is named isn't there: then no stream is read, and
 /// nothing is written. All files are opened before one is read. A stream whose read fails later is a fault of that
 /// stream.
@@ -87,14 +94,13 @@ fn judge_named<Y: System, R: ByteSource + Send + Drop, G: Gate + Sync, O: Write>
 pub fn judge_files<Y: System, G: Gate + Sync, O: Write>(
     world: &World<'_, Y>,
     judgement: &Judgement<'_>,
-    format: Format,
     gate: &G,
     output: &mut O,
 ) -> Result<Option<Report>, EngineFault>
     // If the document and the streams hold a well-formed session, what is written is true: the texts say so.
     ensures { SessionLeaves (Y.Files.file_of world.now.files.now) (options_view judgement.now.names.options)
         judgement.now.names.spec.now (session_view judgement.now.names).1
-        (λ sources. OfNamed (fail_on_view judgement.now.fail_on) (OfFormat (format_view format) sources
+        (λ sources. OfNamed (fail_on_view judgement.now.fail_on) (OfStreams sources
         (fail_on_view judgement.now.fail_on)))
         (named_ending (fail_on_view judgement.now.fail_on) result) (O.contents output.old) (O.contents output.new) }
 {
@@ -105,7 +111,7 @@ pub fn judge_files<Y: System, G: Gate + Sync, O: Write>(
                 document: &read.document,
                 options: &judgement.names.options,
             };
-            judge_named(world, inquiry, streams, judgement, format, gate, output)
+            judge_named(world, inquiry, streams, judgement, gate, output)
         }
         Err(fault) => Err(fault),
     }

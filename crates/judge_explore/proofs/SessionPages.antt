@@ -1,6 +1,6 @@
 -- The page of traces, and of the streams that hold them.
-use Rattle.std.proofs.Common.{◌≡◌, ℕ, List, length, refl, sym, ap, ◌∙◌, subst, Ok, Err}
-use Rattle.std.specs.Prelude.{Result, IfErr}
+use Rattle.std.proofs.Common.{◌≡◌, ℕ, List, length, sym, ap, ◌∙◌, subst, Ok, Err}
+use Rattle.std.specs.Prelude.{Result, IfErr, IfOk}
 use Rattle.std.specs.List.{AllZip}
 use Rattle.def_model.specs.Cuts.{total}
 use Rattle.def_model.specs.Events.{Computation, Place}
@@ -15,7 +15,8 @@ use Rattle.pd_gather.specs.Views.{traces_view}
 use Rattle.def_judgement.specs.Judgements.{IsAnswered, IsJudgement, IsTracesReport, events_of_traces}
 use Rattle.def_judgement.specs.Writes.{Source as StreamSource}
 use Rattle.def_judgement.proofs.TrueReports.{judgement_is_true_lem}
-use Rattle.out_page.specs.AnswerData.{Answered, Cyclic}
+use Rattle.out_json.specs.JsonReports.{json_text_at}
+use Rattle.out_page.specs.AnswerData.{Answered, Cyclic, Outcome}
 use Rattle.out_page.specs.ExtraData.{Extras}
 use Rattle.out_page.specs.Pages.{page_text}
 use Rattle.out_page.specs.SourceData.{Source}
@@ -26,24 +27,25 @@ use Rattle.judge_session.specs.Unanswered.{IsUnanswered, refused_report}
 use Rattle.judge_session.specs.declared.unanswered.Unanswered.{Unanswered}
 use Rattle.judge_session.proofs.FitTraces.{same_events}
 use Rattle.judge_session.proofs.SessionReports.{AreGiven, judged_of_results, of_given, traces_report}
+use Rattle.pd_engine.specs.Ends.{IsGiven}
 use Rattle.pd_engine.proofs.AnsweredTraces.{answers_report}
-use Rattle.judge_explore.specs.Explored.{IsPageOfInputs, IsPageOfTraces, report_with}
+use Rattle.pd_report.specs.Views.{report_view}
+use Rattle.pd_report.specs.declared.report.Report as programs
+use Rattle.judge_explore.specs.Explored.{Form, IsPageOfInputs, IsPageOfTraces, Object, Page, report_with, session_text}
+use Rattle.judge_explore.specs.Known.{known_by}
 use Rattle.judge_explore.specs.Sources.{StreamFile, sources_of}
 
--- the page of traces that make a well-formed computation, of which these are the counts of the report
-pub traces_page : (document : Document) (extras : Extras) (sources : List Source) (traces : List Read) (recorded :
-    Recorded)
-    (count processes events : ℕ) (pairs : List (Place × Place)) (answers : List Answer) (text : List ℕ)
+-- what is made of traces that make a well-formed computation, of which these are the answers of the report
+pub answered_made : (document : Document) (form : Form) (sources : List Source) (traces : List Read)
+    (recorded : Recorded) (count : ℕ) (pairs : List (Place × Place)) (answers : List Answer) (given : programs.Report)
+    (text : List ℕ)
     → AreWellFormed document (traces_view traces) recorded count → IsMessageList (computation_view traces) pairs
     → AllZip (IsAnswered document recorded) document.predicates answers
-    → processes ≡ length document.names → events ≡ total recorded.events
-    → text ≡ page_text document extras sources (computation_view traces) pairs (Answered answers)
-    → IsPageOfTraces document extras sources (traces_view traces) (λ report. report ≡ Judged processes events count
-    answers)
-    text
-traces_page document extras sources traces recorded count processes events pairs answers text well list answered
-    same_names
-    same_total is_text = record {
+    → report_view given ≡ Judged (length document.names) (total recorded.events) count answers
+    → text ≡ session_text form document sources (traces_view traces) pairs count (Answered answers)
+    → IsPageOfTraces document form sources (traces_view traces) (IsGiven (Ok given)) text
+answered_made document form sources traces recorded count pairs answers given text well list answered is is_text =
+    record {
       pairs = pairs;
       are_messages = subst (λ (c : Computation). IsMessageList c pairs) (same_events traces) list;
       messages = count;
@@ -51,44 +53,67 @@ traces_page document extras sources traces recorded count processes events pairs
       right = subst (λ (r : Recorded). IsTracesReport document (traces_view traces)
           (Judged (length document.names) (total r.events) count answers)) well.same
           (answers_report document (traces_view traces) recorded count answers well answered);
-      said = let counted : events ≡ total (events_of_traces (traces_view traces)) =
-          same_total ∙ ap (λ (r : Recorded). total r.events) well.same in
-          sym (ap (λ (n : ℕ). Judged n events count answers) same_names
-          ∙ ap (λ (n : ℕ). Judged (length document.names) n count answers) counted);
-      is_text = is_text
-          ∙ ap (λ (c : Computation). page_text document extras sources c pairs (Answered answers)) (same_events traces);
+      said = sym (is ∙ ap (λ (r : Recorded). Judged (length document.names) (total r.events) count answers) well.same);
+      is_text = is_text;
     }
 
--- the page of traces that are refused for a causal cycle
-pub cycle_page : (document : Document) (extras : Extras) (sources : List Source) (traces : List Read) (pairs : List
-    (Place × Place))
-    (places : List NamedPlace) (text : List ℕ) → IsMessageList (computation_view traces) pairs
+-- the page
+pub page_is : (document : Document) (extras : Extras) (sources : List Source) (traces : List Read)
+    (pairs : List (Place × Place)) (messages : ℕ) (outcome : Outcome) (text : List ℕ)
+    → text ≡ page_text document extras sources (computation_view traces) pairs outcome
+    → text ≡ session_text (Page extras) document sources (traces_view traces) pairs messages outcome
+page_is document extras sources traces pairs messages outcome text is =
+    is ∙ ap (λ (c : Computation). page_text document extras sources c pairs outcome) (same_events traces)
+
+-- the object
+pub object_is : (document : Document) (sources : List Source) (traces : List Read) (recorded : Recorded) (count : ℕ)
+    (pairs : List (Place × Place)) (answers : List Answer) (report : Report) (text : List ℕ)
+    → AreWellFormed document (traces_view traces) recorded count
+    → report ≡ Judged (length document.names) (total recorded.events) count answers
+    → text ≡ json_text_at document.names (known_by document.names document.predicates sources recorded) report
+    → text ≡ session_text Object document sources (traces_view traces) pairs count (Answered answers)
+object_is document sources traces recorded count pairs answers report text well same is =
+    is
+    ∙ ap (λ (r : Report). json_text_at document.names (known_by document.names document.predicates sources recorded) r)
+    same
+    ∙ ap (λ (r : Recorded). json_text_at document.names (known_by document.names document.predicates sources r)
+    (Judged (length document.names) (total r.events) count answers)) well.same
+
+-- what is made of traces that are refused for a causal cycle
+pub cycle_made : (document : Document) (form : Form) (sources : List Source) (traces : List Read)
+    (pairs : List (Place × Place)) (places : List NamedPlace) (given : programs.Report) (text : List ℕ)
+    → IsMessageList (computation_view traces) pairs
     → IsTracesReport document (traces_view traces) (Refused (reports.Cycle places))
-    → text ≡ page_text document extras sources (computation_view traces) pairs (Cyclic places)
-    → IsPageOfTraces document extras sources (traces_view traces) (λ report. report ≡ Refused (reports.Cycle places))
-    text
-cycle_page document extras sources traces pairs places text list right is_text = record {
+    → report_view given ≡ Refused (reports.Cycle places)
+    → text ≡ session_text form document sources (traces_view traces) pairs 0 (Cyclic places)
+    → IsPageOfTraces document form sources (traces_view traces) (IsGiven (Ok given)) text
+cycle_made document form sources traces pairs places given text list right is is_text = record {
   pairs = pairs;
   are_messages = subst (λ (c : Computation). IsMessageList c pairs) (same_events traces) list;
   messages = 0;
   outcome = Cyclic places;
   right = right;
-  said = refl;
-  is_text = is_text ∙ ap (λ (c : Computation). page_text document extras sources c pairs (Cyclic places)) (same_events
-      traces);
+  said = sym is;
+  is_text = is_text;
 }
 
+-- two things that hold of what is made, if something is, give a third
+pub both_made : {A E : Type 0} (result : Result A E) (P Q R : A → Type 0) → ((x : A) → P x → Q x → R x)
+    → IfOk result P → IfOk result Q → IfOk result R
+both_made (Ok x) P Q R go p q = go x p q
+both_made (Err e) P Q R go p q = tt
+
 -- the same of the streams that readers gave
-pub inputs_page : (inquiry : Inquiry) (extras : Extras) (files : List StreamFile) (inputs : List StreamSource)
+pub inputs_page : (inquiry : Inquiry) (form : Form) (files : List StreamFile) (inputs : List StreamSource)
     (document : Document)
     (count : ℕ) (results : List StreamResult) (sources : List Source)
     (traces : List Trace) (IsSaid : Report → Type 0) (text : List ℕ)
     → IsDocument inquiry document → AreGiven document inputs count results
     → session document.names count results ≡ Ok traces
     → sources ≡ sources_of document.names files 0 (events_of_traces traces)
-    → IsPageOfTraces document extras sources traces IsSaid text
-    → IsPageOfInputs inquiry extras files inputs IsSaid text
-inputs_page inquiry extras files inputs document count results sources traces IsSaid text is given joined
+    → IsPageOfTraces document form sources traces IsSaid text
+    → IsPageOfInputs inquiry form files inputs IsSaid text
+inputs_page inquiry form files inputs document count results sources traces IsSaid text is given joined
     recorded page =
     let report : Report = report_with document traces page.messages page.outcome in
     let right : IsJudgement inquiry given.0 report =
@@ -114,8 +139,7 @@ inputs_page inquiry extras files inputs document count results sources traces Is
         truth = judgement_is_true_lem inquiry given.0 report right;
         said = page.said;
         is_text = page.is_text
-            ∙ ap (λ (all : List Source). page_text document extras all (events_of_traces traces) page.pairs
-            page.outcome)
+            ∙ ap (λ (all : List Source). session_text form document all traces page.pairs page.messages page.outcome)
             recorded;
       };
     }

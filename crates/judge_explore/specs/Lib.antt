@@ -1,4 +1,6 @@
 pub mod Sources
 pub mod EventLines
+pub mod Known
 pub mod Explored
+pub mod Forms
 pub mod FileViews

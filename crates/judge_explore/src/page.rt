@@ -1,7 +1,8 @@
-//! The page of a session, with its report.
+//! The page of a session or its object, with its report.
 use pd_report::Report;
 
-/// The page of a session, and the session's report: with the answers that the page shows, or the refusal that it shows.
+/// The page of a session, or the object that stands in its place, and the session's report: with the answers that the
+/// page shows, or the refusal that it shows.
 #[derive(Drop)]
 pub struct Page {
     /// The page's text.

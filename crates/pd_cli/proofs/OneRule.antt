@@ -1,5 +1,5 @@
 -- What each command's own definition says is left is what the one rule for all commands says.
-use Rattle.std.proofs.Common.{◌≡◌, ◌⊎◌, ℕ, Bool, true, false, List, [], ◌∷◌, ◌++◌, codes, map, take, Option, None, Some, not, refl, sym, ap, ◌∙◌, subst, inl, inr}
+use Rattle.std.proofs.Common.{◌≡◌, ◌⊎◌, ℕ, Bool, true, false, List, [], ◌∷◌, ◌++◌, codes, map, take, Option, None, Some, not, refl, sym, ap, ◌∙◌, subst, inl, inr, arith}
 use Rattle.std.specs.Prelude.{⊤, ◌≢◌, All, if◌then◌else◌, nat_lt, ◌||◌}
 use Rattle.std.specs.List.{list_any}
 use Rattle.std.specs.Io.KnownBytes.{Appends, Keeps}
@@ -8,20 +8,20 @@ use Rattle.def_format.specs.Documents.{Document, Inquiry, IsDocument, Options}
 use Rattle.def_format.specs.Reports.{Report, Judged, Refused}
 use Rattle.def_format.specs.Lists.{is_one_of}
 use Rattle.def_judgement.specs.Findings.{is_clean}
-use Rattle.def_judgement.specs.Writes.{IsBrokenOff, IsJudged, IsRefused, IsTextOfBundle, IsTooLong, Source, Whole}
+use Rattle.def_judgement.specs.Writes.{IsBrokenOff, IsJudged, IsRefused, IsTextOfBundle, IsTextOfStreams, IsTooLong, Source, Whole}
 use Rattle.def_judgement.proofs.CleanFindings.{clean_is_clean_lem}
-use Rattle.def_judgement.proofs.TextsOwed.{weaker_said_of_bundle}
+use Rattle.def_judgement.proofs.TextsOwed.{weaker_said_of_bundle, weaker_said_of_streams}
 use Rattle.def_judgement.proofs.Writing.{writes_weaker}
 use Rattle.app_arguments.specs.Arguments.{AsksFor}
 use Rattle.app_arguments.specs.Conditions.{is_met, unknown_name}
 use Rattle.app_arguments.specs.Conditions as conditions
-use Rattle.app_arguments.specs.Formats.{Format}
+use Rattle.app_arguments.specs.Formats.{Format, Plain, Json}
 use Rattle.app_arguments.specs.Places.{Place}
-use Rattle.app_arguments.specs.Statuses.{Alarm, BundleFailure, BundleRuns, CheckFiles, ComesTo, DrawFiles, Ending, Ends, ExploreFiles, Failed, Failure, File, HasNamed as HasNamedBy, HelpLeaves, InferDocument, IsTextOfAccepted, JudgeFiles, JudgeInput, JudgeLines, JudgementLeaves, LacksNamed, LeavesOf, MayBeUnread, MemoryFailure, MergeLines, Misuse, MisuseLeaves, Negative, NetworkFailure, NoPredicate, OfClaim, OfConnections, OfDocument, OfFinding, OfNamed, OfReport, PageOptions, ReadFailure, Reports, Request, ServeStreams, ServiceMayFail, SessionLeaves, ShowHelp, ShowVersion, Success, TestRuns, Unclear, VersionLeaves, WriteFailure, WritesUpTo, sources_of, status_of}
+use Rattle.app_arguments.specs.Statuses.{Alarm, BundleFailure, BundleRuns, CheckFiles, ComesTo, DrawFiles, Ending, Ends, ExploreFiles, Failed, Failure, File, HasNamed as HasNamedBy, HelpLeaves, InferDocument, IsTextOfAccepted, JudgeFiles, JudgeInput, JudgeLines, JudgementLeaves, LacksNamed, LeavesOf, MayBeUnread, MemoryFailure, MergeLines, Misuse, MisuseLeaves, Negative, NetworkFailure, NoPredicate, OfClaim, OfConnections, OfDocument, OfFinding, OfNamed, OfReport, OfStreams, ReadFailure, Reports, Request, ServeStreams, ServiceMayFail, ShowHelp, ShowVersion, Success, TestRuns, Unclear, VersionLeaves, WriteFailure, WritesUpTo, sources_of, status_of}
 use Rattle.app_host.proofs.FilesRead.{up_to_weaker}
 use Rattle.app_host.proofs.JsonReports.{weaker_said_in}
 use Rattle.app_host.specs.FileSources.{bytes_in}
-use Rattle.app_host.specs.Formats.{IsFindingIn, IsFormatted, OfFormat}
+use Rattle.app_host.specs.Formats.{IsFindingIn, IsFormatted}
 use Rattle.app_serve.specs.Kept.{WritesFiles}
 use Rattle.app_test.specs.Tests.{IsTestText, TestLeaves}
 use Rattle.judge_explore.proofs.Written.{owed_weaker}
@@ -29,9 +29,9 @@ use Rattle.judge_runs.specs.Runs.{Fail, NotJudged, Run, conclusion_by, count_of,
 use Rattle.judge_runs.specs.Runs as judged
 use Rattle.judge_runs.specs.Wishes.{Condition, lacks_name, names_of}
 use Rattle.clap.specs.Words.{Text}
-use Rattle.pd_cli.specs.Explorations.{ExplorationLeaves, IsNotesFile, IsOwedWith, OfPage, all_named}
+use Rattle.pd_cli.specs.Explorations.{Asked, AskedObject, AskedPage, ExplorationLeaves, FilesLeave, IsNotesFile, IsOwedWith, OfForm, all_named, notes_of, wishes_of}
 use Rattle.pd_cli.specs.RunCases.{Leaves as LeavesCase, RunsAsAsked}
-use Rattle.pd_cli.specs.Runs.{By, EndsBy, HasNamed, IsTestAt, LeavesText, Leaves, LeavesReport, OfSession, RunsAs, due_of_report, names_in, report_of}
+use Rattle.pd_cli.specs.Runs.{By, EndsBy, HasNamed, IsJudgedIn, IsTestAt, LeavesText, Leaves, LeavesReport, OfSession, RunsAs, due_of_report, names_in, report_of}
 
 -- ---- what is reported
 
@@ -237,25 +237,6 @@ module _ (options : Options) (document : File) (IsUnread : Type 0) (fail_on : Li
   session_left (Failed NetworkFailure) h =
       inr (of_document options document _ _ (λ inquiry. named_left inquiry (Failed NetworkFailure)) h)
 
--- ---- files
-
-format_follows : (format : Format) (inquiry : Inquiry) (inputs : List Source)
-    → Follows (IsFormatted format inquiry inputs)
-format_follows format inquiry inputs = weaker_said_in format inquiry inputs
-
-files_left : (files : List ℕ → File) (options : Options) (fail_on : List Condition) (format : Format)
-    (document : List ℕ) (streams : List (List ℕ)) (old new : Option (List ℕ)) (ending : Ending)
-    → SessionLeaves files options document streams (λ sources. OfNamed fail_on (OfFormat format sources fail_on))
-    ending old new → OutOfMemory ending old new
-    ⊎ OfSession options (files document)
-    (MayBeUnread (files document ∷ map files streams) (files document ∷ [])) (names_in fail_on)
-    (λ inquiry. LeavesReport (IsFormatted format inquiry (sources_of (map files streams))) fail_on) ending old new
-files_left files options fail_on format document streams old new =
-    session_left options (files document) _ fail_on (OfFormat format (sources_of (map files streams)) fail_on)
-    (λ inquiry. LeavesReport (IsFormatted format inquiry (sources_of (map files streams))) fail_on) old new
-    (λ inquiry ending. report_left (IsFormatted format inquiry (sources_of (map files streams)))
-    (format_follows format inquiry (sources_of (map files streams))) fail_on ending old new)
-
 -- ---- connections
 
 accepted_follows : (format : Format) (inquiry : Inquiry) (G : Source → Type 0)
@@ -373,33 +354,84 @@ module _ (format : Format) (options : Options) (document : File) (IsUnread : Typ
 
 -- ---- a page
 
-page_follows : (bytes_of : List ℕ → Option (List ℕ)) (page : PageOptions) (names : List (List ℕ)) (inquiry : Inquiry)
-    (streams : List Source) → Follows (IsOwedWith bytes_of page names inquiry streams)
-page_follows bytes_of page names inquiry streams P Q text go (extras, beside, files, are, owed) =
-    (extras, beside, files, are, owed_weaker inquiry extras files streams P Q text go owed)
+page_follows : (bytes_of : List ℕ → Option (List ℕ)) (asked : Asked) (names : List (List ℕ)) (inquiry : Inquiry)
+    (streams : List Source) → Follows (IsOwedWith bytes_of asked names inquiry streams)
+page_follows bytes_of asked names inquiry streams P Q text go (form, is_form, files, are, owed) =
+    (form, is_form, files, are, owed_weaker inquiry form files streams P Q text go owed)
 
-page_left : (files : List ℕ → File) (options : Options) (fail_on : List Condition) (page : PageOptions)
+page_left : (files : List ℕ → File) (options : Options) (fail_on : List Condition) (asked : Asked)
     (document : List ℕ) (streams : List (List ℕ)) (old new : Option (List ℕ)) (ending : Ending)
-    → ExplorationLeaves files options fail_on page document streams ending old new → OutOfMemory ending old new
+    → ExplorationLeaves files options fail_on asked document streams ending old new → OutOfMemory ending old new
     ⊎ OfSession options (files document)
     (MayBeUnread (files document ∷ map files streams) (files document ∷ [])
-    ⊎ ¬ All IsNotesFile (map files page.notes))
-    (names_in fail_on ++ names_in page.wishes)
-    (λ inquiry. LeavesReport (IsOwedWith (bytes_in files) page streams inquiry (sources_of (map files streams)))
+    ⊎ ¬ All IsNotesFile (map files (notes_of asked)))
+    (names_in fail_on ++ names_in (wishes_of asked))
+    (λ inquiry. LeavesReport (IsOwedWith (bytes_in files) asked streams inquiry (sources_of (map files streams)))
     fail_on) ending old new
-page_left files options fail_on page document streams old new ending h =
+page_left files options fail_on asked document streams old new ending h =
     subst (λ names. OutOfMemory ending old new
     ⊎ OfSession options (files document)
     (MayBeUnread (files document ∷ map files streams) (files document ∷ [])
-    ⊎ ¬ All IsNotesFile (map files page.notes)) names
-    (λ inquiry. LeavesReport (IsOwedWith (bytes_in files) page streams inquiry (sources_of (map files streams)))
-    fail_on) ending old new) (names_of_all fail_on page.wishes)
-    (session_left options (files document) _ (all_named fail_on page.wishes)
-    (OfPage (bytes_in files) page streams (sources_of (map files streams)) fail_on)
-    (λ inquiry. LeavesReport (IsOwedWith (bytes_in files) page streams inquiry (sources_of (map files streams)))
+    ⊎ ¬ All IsNotesFile (map files (notes_of asked))) names
+    (λ inquiry. LeavesReport (IsOwedWith (bytes_in files) asked streams inquiry (sources_of (map files streams)))
+    fail_on) ending old new) (names_of_all fail_on (wishes_of asked))
+    (session_left options (files document) _ (all_named fail_on (wishes_of asked))
+    (OfForm (bytes_in files) asked streams (sources_of (map files streams)) fail_on)
+    (λ inquiry. LeavesReport (IsOwedWith (bytes_in files) asked streams inquiry (sources_of (map files streams)))
     fail_on) old new (λ inquiry ending. report_left _
-    (page_follows (bytes_in files) page streams inquiry (sources_of (map files streams))) fail_on ending old new)
+    (page_follows (bytes_in files) asked streams inquiry (sources_of (map files streams))) fail_on ending old new)
     ending h)
+
+-- ---- files
+
+-- what may be unread is so, or follows from that
+unread_weaker : (options : Options) (document : File) (U V : Type 0) (named : List (Option (List ℕ)))
+    (P : Inquiry → Ending → (old new : Option (List ℕ)) → Type 0) (old new : Option (List ℕ)) → (U → V)
+    → (ending : Ending) → OfSession options document U named P ending old new
+    → OfSession options document V named P ending old new
+unread_weaker options document U V named P old new go Success h = h
+unread_weaker options document U V named P old new go Negative h = h
+unread_weaker options document U V named P old new go Alarm h = h
+unread_weaker options document U V named P old new go NoPredicate h = h
+unread_weaker options document U V named P old new go Misuse h = h
+unread_weaker options document U V named P old new go (Failed MemoryFailure) h = h
+unread_weaker options document U V named P old new go (Failed ReadFailure) h = (go h.0, h.1)
+unread_weaker options document U V named P old new go (Failed WriteFailure) h = h
+unread_weaker options document U V named P old new go (Failed BundleFailure) h = h
+unread_weaker options document U V named P old new go (Failed NetworkFailure) h = h
+
+module _ (files : List ℕ → File) (options : Options) (fail_on : List Condition) (document : List ℕ)
+    (streams : List (List ℕ)) (old new : Option (List ℕ)) where
+  abbrev Unread : Type 0
+  Unread = MayBeUnread (files document ∷ map files streams) (files document ∷ [])
+
+  -- what is left of a judgement in this format
+  abbrev JudgedIn : Format → Ending → Type 0
+  JudgedIn format ending = OfSession options (files document) Unread (names_in fail_on)
+      (λ inquiry. LeavesReport (IsJudgedIn (bytes_in files) format streams inquiry (sources_of (map files streams)))
+      fail_on) ending old new
+
+  no_notes : (Unread ⊎ ¬ All IsNotesFile []) → Unread
+  no_notes (inl unread) = unread
+  no_notes (inr none) = absurd (none (λ k file within. absurd (omega (arith, within))))
+
+  files_left : (format : Format) (ending : Ending)
+      → FilesLeave files options fail_on format document streams ending old new
+      → OutOfMemory ending old new ⊎ JudgedIn format ending
+  files_left Plain ending h =
+      session_left options (files document) Unread fail_on (OfStreams (sources_of (map files streams)) fail_on)
+      (λ inquiry. LeavesReport (IsTextOfStreams inquiry (sources_of (map files streams))) fail_on) old new
+      (λ inquiry ending. report_left (IsTextOfStreams inquiry (sources_of (map files streams)))
+      (weaker_said_of_streams inquiry (sources_of (map files streams))) fail_on ending old new) ending h
+  files_left Json ending h = elim (page_left files options fail_on AskedObject document streams old new ending h) [
+    | inl memory ↦ inl memory
+    | inr left ↦ inr (unread_weaker options (files document) (Unread ⊎ ¬ All IsNotesFile []) Unread (names_in fail_on)
+        (λ inquiry. LeavesReport (IsOwedWith (bytes_in files) AskedObject streams inquiry
+        (sources_of (map files streams))) fail_on) old new no_notes ending
+        (subst (λ names. OfSession options (files document) (Unread ⊎ ¬ All IsNotesFile []) names
+        (λ inquiry. LeavesReport (IsOwedWith (bytes_in files) AskedObject streams inquiry
+        (sources_of (map files streams))) fail_on) ending old new) (append-nil (names_in fail_on)) left))
+  ]
 
 -- ---- recorded runs
 
@@ -512,7 +544,7 @@ module _ (input : Source) (files : List ℕ → File) (connections : Place → S
       → LeavesCase input files connections network_serves request status old new errors_old errors_new → Ran request
   ran JudgeInput = by_rule _ _ status old new errors_old errors_new (input_left input old new)
   ran (JudgeFiles options fail_on format document streams) = by_rule _ _ status old new errors_old errors_new
-      (files_left files options fail_on format document streams old new)
+      (files_left files options fail_on document streams old new format)
   ran (CheckFiles options format document report streams) = by_rule _ _ status old new errors_old errors_new
       (claim_left format options (files document) _ (files report).source (sources_of (map files streams)) old new)
   ran (DrawFiles options scope document others) = λ h. inr h
@@ -524,7 +556,7 @@ module _ (input : Source) (files : List ℕ → File) (connections : Place → S
       (Served format (connections place) network_serves wait port_file keep fail_on old new) old new
       (connections_left format (connections place) network_serves wait port_file keep fail_on old new))
   ran (ExploreFiles options fail_on page document streams) = by_rule _ _ status old new errors_old errors_new
-      (page_left files options fail_on page document streams old new)
+      (page_left files options fail_on (AskedPage page) document streams old new)
   ran (TestRuns options wishes format runs) = by_rule _ _ status old new errors_old errors_new
       (λ ending h. inr (test_left files options wishes format runs old new ending h))
   ran (InferDocument streams) = λ h. inr h

@@ -16,7 +16,7 @@ use Rattle.app_host.specs.FileSources.{IsReadOf, Knows, SameOutline, bytes_in}
 use Rattle.app_host.proofs.DocumentPrefixes.{same_document}
 use Rattle.app_host.proofs.FilesRead.{of_document}
 use Rattle.app_test.specs.Tests.{file_in, stream_in, streams_in}
-use Rattle.judge_explore.specs.Explored.{IsPageOfInputs}
+use Rattle.judge_explore.specs.Explored.{IsPageOfInputs, Page}
 use Rattle.judge_explore.specs.Sources.{AreFilesOf, StreamFile}
 use Rattle.judge_runs.specs.Views.{wish_view, wishes_view}
 use Rattle.judge_runs.specs.Wishes.{Condition}
@@ -108,19 +108,19 @@ module _ (files : List ℕ → File) (page : PageOptions) (folder : List ℕ) (o
       → AllZip Knows (sources_of (map files (streams_in folder document.names))) lefts
       → (extras : Extras) → AreExtras (bytes_in files) page extras → (used : List StreamFile)
       → AreFilesOf (bytes_in files) names used → (report : Report) (text : List ℕ)
-      → IsPageOfInputs (inquiry_of options bytes) extras used lefts (λ other. other ≡ report) text
+      → IsPageOfInputs (inquiry_of options bytes) (Page extras) used lefts (λ other. other ≡ report) text
       → IsPageOfDocument files page folder (inquiry_of options bytes) text
   page_of_streams bytes document is names are_names lefts known extras beside used are_used report text owed = (
     document,
     is,
     report,
     (
-      extras,
-      beside,
+      Page extras,
+      (extras, beside, refl),
       used,
       subst (λ (all : List (List ℕ)). AreFilesOf (bytes_in files) all used) are_names are_used,
       owed_of_files options bytes bytes (sources_of (map files (streams_in folder document.names))) lefts known refl
-          extras used (λ other. other ≡ report) text (inl owed),
+          (Page extras) used (λ other. other ≡ report) text (inl owed),
     ),
   )
 

@@ -5,10 +5,11 @@ use Rattle.std.specs.Str.{IsUtf8}
 use Rattle.def_format.specs.Documents.{Inquiry, Options}
 use Rattle.def_format.specs.Reports.{Report}
 use Rattle.judge_runs.specs.Wishes.{Condition, DefinitelyYes, Kind, PossiblyNo, SomeUnknown}
-use Rattle.app_arguments.specs.Statuses.{Ending, File, LeavesOf, MayBeUnread, OfNamed, OfReport, PageOptions, sources_of}
+use Rattle.app_arguments.specs.Formats.{Format, Plain, Json}
+use Rattle.app_arguments.specs.Statuses.{Ending, File, LeavesOf, MayBeUnread, OfNamed, OfReport, OfStreams, PageOptions, SessionLeaves, sources_of}
 use Rattle.app_host.specs.FileSources.{bytes_in}
 use Rattle.def_judgement.specs.Writes.{Source}
-use Rattle.judge_explore.specs.Explored.{IsOwed}
+use Rattle.judge_explore.specs.Explored.{Form, IsOwed, Object, Page}
 use Rattle.judge_explore.specs.Sources.{AreFilesOf, StreamFile}
 use Rattle.out_page.specs.ExtraData.{Extras}
 
@@ -57,18 +58,37 @@ all_named fail_on wishes = fail_on ++ map named_by wishes
 
 -- ---- what is left
 
--- the text that is owed of a session with what is asked for beside it, and with some files of these names
-abbrev pub IsOwedWith : (bytes_of : List ℕ → Option (List ℕ)) (page : PageOptions) (names : List (List ℕ)) → Inquiry
-    → (streams : List Source) (IsSaid : Report → Type 0) (text : List ℕ) → Type 0
-IsOwedWith bytes_of page names inquiry streams IsSaid text =
-    (extras : Extras) × AreExtras bytes_of page extras × (files : List StreamFile) × AreFilesOf bytes_of names files
-    × IsOwed inquiry extras files streams IsSaid text
+-- what a session is to be made into: its page, with what is asked of that, or its object
+pub data Asked : Type 0 where
+  AskedPage : PageOptions → Asked
+  AskedObject : Asked
 
--- The page of a session, or of its refusal, is left as a judgement's report is.
-abbrev pub OfPage : (bytes_of : List ℕ → Option (List ℕ)) (page : PageOptions) (names : List (List ℕ))
+abbrev pub wishes_of : Asked → List Condition
+wishes_of (AskedPage page) = page.wishes
+wishes_of AskedObject = []
+
+-- the names of the files of notes
+abbrev pub notes_of : Asked → List (List ℕ)
+notes_of (AskedPage page) = page.notes
+notes_of AskedObject = []
+
+-- what is asked for is of this form
+abbrev pub IsFormOf : (bytes_of : List ℕ → Option (List ℕ)) → Asked → Form → Type 0
+IsFormOf bytes_of (AskedPage page) form = (extras : Extras) × AreExtras bytes_of page extras × (form ≡ Page extras)
+IsFormOf bytes_of AskedObject form = form ≡ Object
+
+-- the text that is owed of a session in the form that is asked for, and with some files of these names
+abbrev pub IsOwedWith : (bytes_of : List ℕ → Option (List ℕ)) → Asked → (names : List (List ℕ)) → Inquiry
+    → (streams : List Source) (IsSaid : Report → Type 0) (text : List ℕ) → Type 0
+IsOwedWith bytes_of asked names inquiry streams IsSaid text =
+    (form : Form) × IsFormOf bytes_of asked form × (files : List StreamFile) × AreFilesOf bytes_of names files
+    × IsOwed inquiry form files streams IsSaid text
+
+-- What is made of a session, or of its refusal, is left as a judgement's report is.
+abbrev pub OfForm : (bytes_of : List ℕ → Option (List ℕ)) → Asked → (names : List (List ℕ))
     (streams : List Source) (fail_on : List Condition) → Inquiry → Ending → (old new : Option (List ℕ)) → Type 0
-OfPage bytes_of page names streams fail_on inquiry ending old new =
-    OfReport (IsOwedWith bytes_of page names inquiry streams) fail_on ending old new
+OfForm bytes_of asked names streams fail_on inquiry ending old new =
+    OfReport (IsOwedWith bytes_of asked names inquiry streams) fail_on ending old new
 
 -- A file of the session may be such that it can't be opened, or the document such that it can't be read; or not each
 -- file of notes holds such.
@@ -77,9 +97,17 @@ UnreadPage files document streams notes =
     MayBeUnread (files document ∷ map files streams) (files document ∷ []) ⊎ (All IsNotesFile (map files notes) → ⊥)
 
 -- what is left of a run that explores the session in files of these names
-abbrev pub ExplorationLeaves : (files : List ℕ → File) (options : Options) (fail_on : List Condition)
-    (page : PageOptions) (document : List ℕ) (streams : List (List ℕ)) → Ending → (old new : Option (List ℕ)) → Type 0
-ExplorationLeaves files options fail_on page document streams ending old new =
-    LeavesOf options (files document) (UnreadPage files document streams page.notes)
-    (OfNamed (all_named fail_on page.wishes)
-    (OfPage (bytes_in files) page streams (sources_of (map files streams)) fail_on)) ending old new
+abbrev pub ExplorationLeaves : (files : List ℕ → File) (options : Options) (fail_on : List Condition) → Asked
+    → (document : List ℕ) (streams : List (List ℕ)) → Ending → (old new : Option (List ℕ)) → Type 0
+ExplorationLeaves files options fail_on asked document streams ending old new =
+    LeavesOf options (files document) (UnreadPage files document streams (notes_of asked))
+    (OfNamed (all_named fail_on (wishes_of asked))
+    (OfForm (bytes_in files) asked streams (sources_of (map files streams)) fail_on)) ending old new
+
+-- What is left of a run that judges the session in files of these names: its report, or the object, by the format.
+abbrev pub FilesLeave : (files : List ℕ → File) (options : Options) (fail_on : List Condition) → Format
+    → (document : List ℕ) (streams : List (List ℕ)) → Ending → (old new : Option (List ℕ)) → Type 0
+FilesLeave files options fail_on Plain document streams =
+    SessionLeaves files options document streams (λ sources. OfNamed fail_on (OfStreams sources fail_on))
+FilesLeave files options fail_on Json document streams =
+    ExplorationLeaves files options fail_on AskedObject document streams

@@ -5,10 +5,10 @@ use Rattle.std.specs.Io.KnownBytes.{Keeps}
 use Rattle.clap.specs.Words.{Text}
 use Rattle.def_judgement.specs.Writes.{Source}
 use Rattle.app_arguments.specs.Arguments.{AsksFor}
-use Rattle.app_arguments.specs.Statuses.{CheckFiles, DrawFiles, Ending, Ends, ExploreFiles, Failed, File, HelpLeaves, BundleRuns, InferDocument, JudgeFiles, JudgeInput, JudgeLines, JudgementLeaves, LeavesOf, MayBeUnread, MemoryFailure, MergeLines, MisuseLeaves, OfConnections, OfFinding, OfNamed, Request, ServeStreams, ServiceMayFail, SessionLeaves, ShowHelp, ShowVersion, TestRuns, Unclear, UnreadClaim, VersionLeaves, sources_of}
+use Rattle.app_arguments.specs.Statuses.{CheckFiles, DrawFiles, Ending, Ends, ExploreFiles, Failed, File, HelpLeaves, BundleRuns, InferDocument, JudgeFiles, JudgeInput, JudgeLines, JudgementLeaves, LeavesOf, MayBeUnread, MemoryFailure, MergeLines, MisuseLeaves, OfConnections, OfFinding, OfNamed, Request, ServeStreams, ServiceMayFail, ShowHelp, ShowVersion, TestRuns, Unclear, UnreadClaim, VersionLeaves, sources_of}
 use Rattle.pd_cli.specs.ShownDrawings.{EndsShown}
-use Rattle.pd_cli.specs.Explorations.{ExplorationLeaves}
-use Rattle.app_host.specs.Formats.{IsFindingIn, IsFormatted, OfFormat}
+use Rattle.pd_cli.specs.Explorations.{AskedPage, ExplorationLeaves, FilesLeave}
+use Rattle.app_host.specs.Formats.{IsFindingIn, IsFormatted}
 use Rattle.app_arguments.specs.Places.{Place}
 use Rattle.app_serve.specs.Kept.{WritesFiles}
 use Rattle.app_infer.specs.Inferences.{EndsInferred}
@@ -28,7 +28,7 @@ abbrev pub Leaves : (input : Source) (files : List ℕ → File) (connections : 
     (network_serves : Bool) → Request → (status : ℕ) (old new errors_old errors_new : Option (List ℕ)) → Type 0
 Leaves input files connections network_serves JudgeInput = By (JudgementLeaves input)
 Leaves input files connections network_serves (JudgeFiles options fail_on format document streams) =
-    By (SessionLeaves files options document streams (λ sources. OfNamed fail_on (OfFormat format sources fail_on)))
+    By (FilesLeave files options fail_on format document streams)
 Leaves input files connections network_serves (CheckFiles options format document report streams) =
     By (LeavesOf options (files document) (UnreadClaim files document report streams)
     (OfFinding (IsFindingIn format) (files report).source (sources_of (map files streams))))
@@ -40,7 +40,7 @@ Leaves input files connections network_serves
     (OfNamed fail_on (OfConnections (IsFormatted format) (connections place) (ServiceMayFail wait network_serves)
     (WritesFiles keep port_file) fail_on)))
 Leaves input files connections network_serves (ExploreFiles options fail_on page document streams) =
-    By (ExplorationLeaves files options fail_on page document streams)
+    By (ExplorationLeaves files options fail_on (AskedPage page) document streams)
 Leaves input files connections network_serves (TestRuns options wishes format runs) =
     By (TestLeaves files options wishes format runs)
 Leaves input files connections network_serves (InferDocument streams) = EndsInferred files streams

@@ -7,7 +7,7 @@ use Rattle.app_arguments.specs.Statuses.{File, OfDocument, PageOptions, sources_
 use Rattle.app_host.specs.FileSources.{bytes_in}
 use Rattle.app_test.specs.Tests.{document_in, streams_in}
 use Rattle.judge_runs.specs.Wishes.{Condition}
-use Rattle.pd_cli.specs.Explorations.{IsOwedWith}
+use Rattle.pd_cli.specs.Explorations.{AskedPage, IsOwedWith}
 
 -- a wish is for the predicate of a name
 abbrev pub is_named : Option (List ℕ) → Bool
@@ -29,7 +29,7 @@ abbrev pub IsPageOfDocument : (files : List ℕ → File) (page : PageOptions) (
     → (text : List ℕ) → Type 0
 IsPageOfDocument files page folder inquiry text =
     (document : Document) × IsDocument inquiry document × (report : Report)
-    × IsOwedWith (bytes_in files) page (streams_in folder document.names) inquiry
+    × IsOwedWith (bytes_in files) (AskedPage page) (streams_in folder document.names) inquiry
     (sources_of (map files (streams_in folder document.names))) (λ other. other ≡ report) text
 
 -- The same of the document in the folder: it is the page that `explore` owes of the run with these options and wishes.

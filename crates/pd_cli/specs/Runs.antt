@@ -6,9 +6,9 @@ use Rattle.def_format.specs.Documents.{Document, Inquiry, IsDocument, Options}
 use Rattle.def_format.specs.Limits.{report_byte_limit}
 use Rattle.def_format.specs.Reports.{Report, Judged, Refused}
 use Rattle.def_judgement.specs.Findings.{names_asked}
-use Rattle.def_judgement.specs.Writes.{IsBrokenOff, IsTextOfBundle, IsTooLong, Source, Whole, Writes}
+use Rattle.def_judgement.specs.Writes.{IsBrokenOff, IsTextOfBundle, IsTextOfStreams, IsTooLong, Source, Whole, Writes}
 use Rattle.app_arguments.specs.Conditions.{is_asked_for}
-use Rattle.app_arguments.specs.Formats.{Format}
+use Rattle.app_arguments.specs.Formats.{Format, Plain, Json}
 use Rattle.app_arguments.specs.Places.{Place}
 use Rattle.app_arguments.specs.Statuses.{Alarm, BundleFailure, BundleRuns, CheckFiles, DrawFiles, Ending, ExploreFiles, Failed, File, InferDocument, IsTextOfAccepted, JudgeFiles, JudgeInput, JudgeLines, MayBeUnread, MemoryFailure, MergeLines, Misuse, Negative, NetworkFailure, NoPredicate, OfClaim, OfDocument, ReadFailure, Request, ServeStreams, ShowHelp, ShowVersion, Success, TestRuns, Unclear, WriteFailure, WritesUpTo, line_of_failure, sources_of, status_of_failure}
 use Rattle.judge_runs.specs.Runs.{Fail, NotJudged, Run, count_of, verdict_of_run}
@@ -21,7 +21,7 @@ use Rattle.app_batch.specs.Batches.{BatchLeaves}
 use Rattle.app_bundle.specs.Bundles.{BundleLeaves}
 use Rattle.app_merge.specs.Merges.{EndsMerged}
 use Rattle.pd_cli.specs.ShownDrawings.{EndsShown}
-use Rattle.pd_cli.specs.Explorations.{IsNotesFile, IsOwedWith}
+use Rattle.pd_cli.specs.Explorations.{AskedObject, AskedPage, IsNotesFile, IsOwedWith}
 
 -- ---- how a run ends
 
@@ -101,6 +101,13 @@ OfSession options document IsUnread named P ending old new =
 
 -- ---- what is asked for
 
+-- The text of the report of a document and of the streams that these sources gave, in this format, or the object that
+-- says more of it, with some files of these names.
+abbrev pub IsJudgedIn : (bytes_of : List ℕ → Option (List ℕ)) → Format → (names : List (List ℕ)) → Inquiry
+    → (streams : List Source) (IsSaid : Report → Type 0) (text : List ℕ) → Type 0
+IsJudgedIn bytes_of Plain names = IsTextOfStreams
+IsJudgedIn bytes_of Json names = IsOwedWith bytes_of AskedObject names
+
 abbrev pub names_in : List Condition → List (Option (List ℕ))
 names_in conditions = map (λ (condition : Condition). condition.name) conditions
 
@@ -116,7 +123,7 @@ Leaves input files connections network_serves JudgeInput =
 Leaves input files connections network_serves (JudgeFiles options fail_on format document streams) =
     By (OfSession options (files document) (MayBeUnread (files document ∷ map files streams) (files document ∷ []))
     (names_in fail_on) (λ inquiry.
-    LeavesReport (IsFormatted format inquiry (sources_of (map files streams))) fail_on))
+    LeavesReport (IsJudgedIn (bytes_in files) format streams inquiry (sources_of (map files streams))) fail_on))
 Leaves input files connections network_serves (CheckFiles options format document report streams) =
     By (OfSession options (files document)
     (MayBeUnread (files document ∷ files report ∷ map files streams) (files document ∷ files report ∷ [])
@@ -141,7 +148,8 @@ Leaves input files connections network_serves (ExploreFiles options fail_on page
     (MayBeUnread (files document ∷ map files streams) (files document ∷ [])
     ⊎ ¬ All IsNotesFile (map files page.notes))
     (names_in fail_on ++ names_in page.wishes) (λ inquiry.
-    LeavesReport (IsOwedWith (bytes_in files) page streams inquiry (sources_of (map files streams))) fail_on))
+    LeavesReport (IsOwedWith (bytes_in files) (AskedPage page) streams inquiry (sources_of (map files streams)))
+    fail_on))
 Leaves input files connections network_serves (TestRuns options wishes format runs) =
     By (λ ending. LeavesText (IsTestAt files options wishes format runs ending) ending)
 Leaves input files connections network_serves (InferDocument streams) = EndsInferred files streams

@@ -1,20 +1,20 @@
-//! Explores the session in files.
+//! Explores the session in files, or makes the object of its report.
 ghost use Rattle.app_arguments.specs.ConditionViews.{fail_on_view};
 ghost use Rattle.judge_runs.specs.Wishes.{Condition};
 ghost use Rattle.app_arguments.specs.Statuses.{OfNamed, OfReport};
 ghost use Rattle.app_arguments.specs.Views.{page_view, session_view};
-ghost use Rattle.pd_cli.specs.Explorations.{AreExtras, ExplorationLeaves, OfPage, all_named};
+ghost use Rattle.pd_cli.specs.Explorations.{Asked, AskedObject, AskedPage, ExplorationLeaves, IsFormOf, OfForm, all_named, wishes_of};
 ghost use Rattle.app_host.specs.Faults.{judgement_ending, named_ending};
 ghost use Rattle.app_host.specs.FileSources.{ReadLeaves, bytes_in};
 ghost use Rattle.def_format.specs.Documents as documents;
 ghost use Rattle.def_judgement.specs.Writes.{Source};
 ghost use Rattle.judge_explore.specs.Explored.{IsOwed, IsOwnRefusal};
+ghost use Rattle.judge_explore.specs.Forms.{form_view};
 ghost use Rattle.judge_explore.specs.FileViews.{file_view, files_view};
 ghost use Rattle.judge_explore.specs.Sources.{AreFilesOf, IsFileOf, StreamFile as SourceFile, stream_bytes};
 ghost use Rattle.judge_session.specs.Unanswered.{IsUnanswered};
 ghost use Rattle.judge_session.specs.Inquiries.{inquiry_view};
-ghost use Rattle.out_page.specs.ExtraData.{Extras as Beside};
-ghost use Rattle.out_page.specs.Views.{extras_view};
+ghost use Rattle.judge_runs.specs.Views.{wishes_view};
 ghost use Rattle.pd_engine.specs.Ends.{IsGiven};
 ghost use Rattle.pd_spec.specs.Views.{options_view};
 ghost use Rattle.std.specs.Prelude.{◌≡◌, ◌⊎◌, All, IfErr, IfOk, IfSome, List, Ok, false, map};
@@ -25,53 +25,69 @@ use app_arguments::{Judgement, PageOptions, SessionNames};
 use app_ends::refusal_text;
 use app_host::{FileSource, System, World, read_session};
 use def_format::STREAM_BYTE_LIMIT;
-use judge_explore::{Page, StreamFile, explore, refused_page, write_page};
+use judge_explore::{Form, Page, StreamFile, explore, refused_page, write_page};
+use judge_runs::Wish;
 use judge_session::{EngineFault, Unanswered, read_upto};
-use out_page::Extras;
 use pd_engine::{ByteSource, Gate, Inquiry, Report};
+use pd_report::Refusal;
 use std::alloc::{AllocError, Global};
 use std::io::Write;
 
-/// The page of the refusal of the session in files, with its explanation.
+/// The explanation of a refusal, which its page has. An object has none.
+fn explanation_in<Y: System>(
+    world: &World<'_, Y>,
+    names: &SessionNames<'_>,
+    form: Form<'_, '_>,
+    refusal: &Refusal,
+) -> Vec<u8> {
+    match form {
+        Form::Page(_) => refusal_text(world, names, refusal),
+        Form::Object => Vec::new(world.alloc),
+    }
+}
+
+/// The page of the refusal of the session in files, with its explanation, or its object.
 ///
 /// # Errors
 /// `Memory`.
 fn unanswered_page<Y: System>(
     world: &World<'_, Y>,
     names: &SessionNames<'_>,
+    form: Form<'_, '_>,
     unanswered: Unanswered,
 ) -> Result<Page, EngineFault>
     // It is owed of each inquiry and of readers of which the refusal is, whatever the files.
-    ensures page { (inquiry : documents.Inquiry) (extras : Beside) (files : List SourceFile) (inputs : List Source)
+    ensures page { (inquiry : documents.Inquiry) (files : List SourceFile) (inputs : List Source)
         → IsUnanswered (IsOwnRefusal inquiry inputs) unanswered → IfOk result (λ page.
-        IsOwed inquiry extras files inputs (IsGiven (Ok page.report)) page.text.items) }
+        IsOwed inquiry (form_view form.entry) files inputs (IsGiven (Ok page.report)) page.text.items) }
     ensures err { IfErr result (λ fault. fault ≡ EngineFault.Memory) }
 {
     match unanswered {
         Unanswered::Refused(refusal) => {
-            let text = refusal_text(world, names, &refusal);
-            let page = refused_page(world.alloc, refusal, &text)?;
+            let text = explanation_in(world, names, form, &refusal);
+            let page = refused_page(world.alloc, form, refusal, &text)?;
             Ok(page)
         }
         Unanswered::Memory => Err(EngineFault::Memory),
     }
 }
 
-/// The page of a document, with what is asked, and the streams, or of their refusal, with its explanation.
+/// The page or the object of a document, with what is asked, and the streams, or of their refusal, with its
+/// explanation.
 ///
 /// # Errors
 /// `Memory`.
 fn page_of<Y: System, R: ByteSource + Send + Drop, G: Gate + Sync>(
     world: &World<'_, Y>,
     inquiry: Inquiry<'_, '_, '_>,
-    extras: &Extras<'_>,
+    form: Form<'_, '_>,
     sources: &[StreamFile<'_>],
     streams: Vec<R>,
     judgement: &Judgement<'_>,
     gate: &G,
 ) -> Result<Page, EngineFault>
     requires { All (λ stream. R.has_ended stream ≡ false) streams.items }
-    ensures page { IfOk result (λ page. IsOwed (inquiry_view inquiry.entry) (extras_view extras.now)
+    ensures page { IfOk result (λ page. IsOwed (inquiry_view inquiry.entry) (form_view form.entry)
         (files_view sources.now) (map R.left streams.items) (IsGiven (Ok page.report)) page.text.items) }
     ensures err { IfErr result (λ fault. fault ≡ EngineFault.Memory) }
 {
@@ -80,26 +96,26 @@ fn page_of<Y: System, R: ByteSource + Send + Drop, G: Gate + Sync>(
         world.rt,
         world.alloc,
         inquiry,
-        extras,
+        form,
         sources,
         streams,
         workers,
         gate,
     ) {
         Ok(page) => Ok(page),
-        Err(unanswered) => unanswered_page(world, &judgement.names, unanswered),
+        Err(unanswered) => unanswered_page(world, &judgement.names, form, unanswered),
     }
 }
 
-/// Explores a document, with what is asked, and the streams, writes the page, or that of the refusal, and flushes the
-/// output. It gives the report.
+/// Explores a document, with what is asked, and the streams, writes the page, or that of the refusal, or the object,
+/// and flushes the output. It gives the report.
 ///
 /// # Errors
 /// `Memory` leaves nothing written. `Write` leaves a part of the text written, or all of it if only the flush failed.
 fn explore_read<Y: System, R: ByteSource + Send + Drop, G: Gate + Sync, O: Write>(
     world: &World<'_, Y>,
     inquiry: Inquiry<'_, '_, '_>,
-    extras: &Extras<'_>,
+    form: Form<'_, '_>,
     sources: &[StreamFile<'_>],
     streams: Vec<R>,
     judgement: &Judgement<'_>,
@@ -109,11 +125,11 @@ fn explore_read<Y: System, R: ByteSource + Send + Drop, G: Gate + Sync, O: Write
     requires { All (λ stream. R.has_ended stream ≡ false) streams.items }
     // This is said for all answers on which the run may be to fail.
     ensures written { (fail_on : List Condition) → ReadLeaves (OfReport (IsOwed (inquiry_view inquiry.entry)
-        (extras_view extras.now) (files_view sources.now) (map R.left streams.items)) fail_on)
+        (form_view form.entry) (files_view sources.now) (map R.left streams.items)) fail_on)
         (judgement_ending fail_on result) (O.contents output.old) (O.contents output.new) }
     ensures err { IfErr result (λ fault. (fault ≡ EngineFault.Memory) ⊎ (fault ≡ EngineFault.Write)) }
 {
-    let page = page_of(world, inquiry, extras, sources, streams, judgement, gate)?;
+    let page = page_of(world, inquiry, form, sources, streams, judgement, gate)?;
     let report = write_page(page, output)?;
     if output.flush().is_err() {
         return Err(EngineFault::Write);
@@ -200,27 +216,29 @@ pub(crate) fn stream_files<'a, Y: System>(
 fn explore_named<Y: System, R: ByteSource + Send + Drop, G: Gate + Sync, O: Write>(
     world: &World<'_, Y>,
     inquiry: Inquiry<'_, '_, '_>,
-    extras: &Extras<'_>,
+    form: Form<'_, '_>,
     streams: Vec<R>,
     judgement: &Judgement<'_>,
-    page: &PageOptions<'_>,
+    wishes: &[Wish<'_>],
     gate: &G,
     output: &mut O,
 ) -> Result<Option<Report>, EngineFault>
     requires { All (λ stream. R.has_ended stream ≡ false) streams.items }
-    ensures { AreExtras (bytes_in (Y.Files.file_of world.now.files.now)) (page_view page.now) (extras_view extras.now)
-        → ReadLeaves (OfNamed (all_named (fail_on_view judgement.now.fail_on) (page_view page.now).wishes)
-        (OfPage (bytes_in (Y.Files.file_of world.now.files.now)) (page_view page.now)
+    // This is said for all that may be asked for in this form, with these wishes.
+    ensures { (asked : Asked) → IsFormOf (bytes_in (Y.Files.file_of world.now.files.now)) asked (form_view form.entry)
+        → wishes_of asked ≡ wishes_view wishes.now
+        → ReadLeaves (OfNamed (all_named (fail_on_view judgement.now.fail_on) (wishes_of asked))
+        (OfForm (bytes_in (Y.Files.file_of world.now.files.now)) asked
         (session_view judgement.now.names).1 (map R.left streams.items) (fail_on_view judgement.now.fail_on))
         (inquiry_view inquiry.entry)) (named_ending (fail_on_view judgement.now.fail_on) result)
         (O.contents output.old) (O.contents output.new) }
 {
-    if !has_all_named(world.alloc, inquiry, &judgement.fail_on, &page.wishes)? {
+    if !has_all_named(world.alloc, inquiry, &judgement.fail_on, wishes)? {
         return Ok(None);
     }
     let sources = stream_files(world, &judgement.names.streams)?;
     match explore_read(
-        world, inquiry, extras, &sources, streams, judgement, gate, output,
+        world, inquiry, form, &sources, streams, judgement, gate, output,
     ) {
         Ok(report) => Ok(Some(report)),
         Err(fault) => Err(fault),
@@ -244,7 +262,7 @@ pub(crate) fn explore_files<Y: System, G: Gate + Sync, O: Write>(
     output: &mut O,
 ) -> Result<Option<Report>, EngineFault>
     ensures { ExplorationLeaves (Y.Files.file_of world.now.files.now) (options_view judgement.now.names.options)
-        (fail_on_view judgement.now.fail_on) (page_view page.now) judgement.now.names.spec.now
+        (fail_on_view judgement.now.fail_on) (AskedPage (page_view page.now)) judgement.now.names.spec.now
         (session_view judgement.now.names).1 (named_ending (fail_on_view judgement.now.fail_on) result)
         (O.contents output.old) (O.contents output.new) }
 {
@@ -256,12 +274,51 @@ pub(crate) fn explore_files<Y: System, G: Gate + Sync, O: Write>(
                     document: &read.document,
                     options: &judgement.names.options,
                 };
+                let form = Form::Page(&extras);
                 explore_named(
-                    world, inquiry, &extras, streams, judgement, page, gate, output,
+                    world,
+                    inquiry,
+                    form,
+                    streams,
+                    judgement,
+                    &page.wishes,
+                    gate,
+                    output,
                 )
             }
             Err(fault) => Err(fault),
         },
+        Err(fault) => Err(fault),
+    }
+}
+
+/// Does the same with the object of the report in place of the page, without notes: where the cuts of its answers stand
+/// is found in the streams' files, which are read once more.
+///
+/// # Errors
+/// `Read`, if a file can't be opened or the document can't be read, and `Memory` leave nothing written. `Write` leaves
+/// a part of the object written, or all of it if only the flush failed.
+pub(crate) fn object_files<Y: System, G: Gate + Sync, O: Write>(
+    world: &World<'_, Y>,
+    judgement: &Judgement<'_>,
+    gate: &G,
+    output: &mut O,
+) -> Result<Option<Report>, EngineFault>
+    ensures { ExplorationLeaves (Y.Files.file_of world.now.files.now) (options_view judgement.now.names.options)
+        (fail_on_view judgement.now.fail_on) AskedObject judgement.now.names.spec.now
+        (session_view judgement.now.names).1 (named_ending (fail_on_view judgement.now.fail_on) result)
+        (O.contents output.old) (O.contents output.new) }
+{
+    match read_session(world, &judgement.names) {
+        Ok(read) => {
+            let streams = read.streams;
+            let inquiry = Inquiry {
+                document: &read.document,
+                options: &judgement.names.options,
+            };
+            let form = Form::Object;
+            explore_named(world, inquiry, form, streams, judgement, &[], gate, output)
+        }
         Err(fault) => Err(fault),
     }
 }

@@ -4,14 +4,15 @@ ghost use Rattle.app_serve.specs.Kept.{AsksForFiles};
 ghost use Rattle.app_arguments.specs.Arguments.{AsksFor};
 ghost use Rattle.pd_cli.specs.Drawings.{EndsDrawn};
 ghost use Rattle.pd_cli.specs.Explained.{Explained};
-ghost use Rattle.pd_cli.specs.Explorations.{ExplorationLeaves};
+ghost use Rattle.pd_cli.specs.Explorations.{AskedPage, ExplorationLeaves, FilesLeave};
+ghost use Rattle.app_host.specs.Faults.{named_ending};
 ghost use Rattle.pd_cli.specs.RunCases.{RunsAsAsked};
 ghost use Rattle.pd_cli.specs.Runs.{RunsAs};
 ghost use Rattle.out_picture.specs.Scopes.{scope_view};
 ghost use Rattle.app_arguments.specs.ConditionViews.{fail_on_view};
-ghost use Rattle.app_arguments.specs.Statuses.{Ends, JudgeInput, JudgementLeaves, LeavesOf, MayBeUnread, OfConnections, OfFinding, OfNamed, ServiceMayFail, SessionLeaves, UnreadClaim, sources_of};
+ghost use Rattle.app_arguments.specs.Statuses.{Ends, JudgeInput, JudgementLeaves, LeavesOf, MayBeUnread, OfConnections, OfFinding, OfNamed, ServiceMayFail, UnreadClaim, sources_of};
 ghost use Rattle.app_arguments.specs.Views.{format_view, names_view, page_view, session_view};
-ghost use Rattle.app_host.specs.Formats.{IsFindingIn, IsFormatted, OfFormat};
+ghost use Rattle.app_host.specs.Formats.{IsFindingIn, IsFormatted};
 ghost use Rattle.app_batch.specs.Batches.{BatchLeaves};
 ghost use Rattle.app_bundle.specs.Bundles.{BundleLeaves};
 ghost use Rattle.app_infer.specs.Inferences.{EndsInferred};
@@ -25,7 +26,7 @@ ghost use Rattle.std.specs.Prelude.{◌≡◌, ◌≤◌, ◌∷◌, [], drop, f
 use super::bundle::judge_input;
 use super::draw_files::{draw_noted, report_drawing};
 use super::explanation::write_explanation;
-use super::explore_files::explore_files;
+use super::explore_files::{explore_files, object_files};
 use super::pages::Pages;
 use super::parser_error::report_parser_error;
 use super::result_files::ResultFiles;
@@ -46,8 +47,9 @@ use app_infer::{infer_files, infer_text, report_infer};
 use app_merge::{merge_lines, merge_text, report_merge};
 use app_serve::{Host, Peers, report_service_end, serve, service_text};
 use app_test::{report_test, test_text};
+use judge_session::EngineFault;
 use out_picture::DrawOptions;
-use pd_engine::ByteSource;
+use pd_engine::{ByteSource, Gate, Report};
 use std::alloc::Global;
 use std::io::Write;
 use std::random::RandomSource;
@@ -132,6 +134,28 @@ fn run_service<Y: System, O: Write, E: Write>(
     report_service_end(&service.fail_on, &end, errors)
 }
 
+/// Judges the session in files, and writes the report in this format.
+///
+/// # Errors
+/// As `judge_files` and `object_files`.
+fn judge_files_in<Y: System, G: Gate + Sync, O: Write>(
+    world: &World<'_, Y>,
+    judgement: &Judgement<'_>,
+    format: Format,
+    gate: &G,
+    output: &mut O,
+) -> Result<Option<Report>, EngineFault>
+    ensures { FilesLeave (Y.Files.file_of world.now.files.now) (options_view judgement.now.names.options)
+        (fail_on_view judgement.now.fail_on) (format_view format) judgement.now.names.spec.now
+        (session_view judgement.now.names).1 (named_ending (fail_on_view judgement.now.fail_on) result)
+        (O.contents output.old) (O.contents output.new) }
+{
+    match format {
+        Format::Plain => judge_files(world, judgement, gate, output),
+        Format::Json => object_files(world, judgement, gate, output),
+    }
+}
+
 /// Judges the session in files, writes the report in this format, and gives the exit status.
 fn run_files<Y: System, O: Write, E: Write>(
     world: &World<'_, Y>,
@@ -140,14 +164,13 @@ fn run_files<Y: System, O: Write, E: Write>(
     output: &mut O,
     errors: &mut E,
 ) -> u8
-    ensures { Explained world.now.explain (λ start. Ends (λ ending. SessionLeaves (Y.Files.file_of world.now.files.now)
-        (options_view judgement.now.names.options) judgement.now.names.spec.now (session_view judgement.now.names).1
-        (λ sources. OfNamed (fail_on_view judgement.now.fail_on) (OfFormat (format_view format) sources
-        (fail_on_view judgement.now.fail_on))) ending (O.contents output.old)
+    ensures { Explained world.now.explain (λ start. Ends (λ ending. FilesLeave (Y.Files.file_of world.now.files.now)
+        (options_view judgement.now.names.options) (fail_on_view judgement.now.fail_on) (format_view format)
+        judgement.now.names.spec.now (session_view judgement.now.names).1 ending (O.contents output.old)
         (O.contents output.new)) result start (E.contents errors.new)) (E.contents errors.old) }
 {
     let gate = LevelGate::new(world.files);
-    let end = judge_files(world, judgement, format, &gate, output);
+    let end = judge_files_in(world, judgement, format, &gate, output);
     let text = judgement_text(world, judgement, gate.widest(), &end);
     write_explanation(world.explain, &text, errors);
     report_judgement(&judgement.fail_on, &end, errors)
@@ -164,7 +187,7 @@ fn run_explore<Y: System, O: Write, E: Write>(
 ) -> u8
     ensures { Explained world.now.explain (λ start. Ends (λ ending. ExplorationLeaves
         (Y.Files.file_of world.now.files.now) (options_view judgement.now.names.options)
-        (fail_on_view judgement.now.fail_on) (page_view page.now) judgement.now.names.spec.now
+        (fail_on_view judgement.now.fail_on) (AskedPage (page_view page.now)) judgement.now.names.spec.now
         (session_view judgement.now.names).1 ending (O.contents output.old) (O.contents output.new)) result start
         (E.contents errors.new)) (E.contents errors.old) }
 {

@@ -13,7 +13,7 @@ use super::page_extras::extras_of;
 use app_arguments::{PageOptions, Test};
 use app_host::{System, World, is_out_of_memory};
 use app_test::{Unopened, document_in, open_streams, read_run_document, stream_in};
-use judge_explore::{Page, explore};
+use judge_explore::{Form, Page, explore};
 use judge_runs::{Wish, first_unnamed};
 use judge_session::{EngineFault, Unanswered};
 use pd_engine::{Gate, Inquiry};
@@ -117,8 +117,9 @@ fn document_page<Y: System, G: Gate + Sync>(
         options: &test.options,
     };
     let workers = test.workers.count();
+    let form = Form::Page(&extras);
     match explore(
-        world.rt, alloc, inquiry, &extras, &sources, streams, workers, gate,
+        world.rt, alloc, inquiry, form, &sources, streams, workers, gate,
     ) {
         Ok(page) => {
             let Page { text, report: _ } = page;

@@ -1,8 +1,7 @@
 -- A judgement that fails does so with all predicates that are named.
 use Rattle.std.proofs.Common.{Err, map}
 use Rattle.app_arguments.specs.ConditionViews.{fail_on_view}
-use Rattle.app_arguments.specs.Views.{format_view}
-use Rattle.app_host.specs.Formats.{OfFormat}
+use Rattle.app_arguments.specs.Statuses.{OfStreams}
 use Rattle.judge_session.specs.Inquiries.{inquiry_view}
 use Rattle.app_host.specs.Faults.{judgement_ending}
 use Rattle.app_host.proofs.NamedPredicates.{with_named}
@@ -11,7 +10,7 @@ use Rattle.app_host.proofs.judgements.judge_named.Goals as goal
 pub returns-in-Err : goal.returns-in-Err
 returns-in-Err g c =
     let fail_on = fail_on_view c.args.judgement.now.fail_on in
-    with_named fail_on (OfFormat (format_view c.args.format) (map g.R.ByteSource.left c.args.streams.items) fail_on)
+    with_named fail_on (OfStreams (map g.R.ByteSource.left c.args.streams.items) fail_on)
     (inquiry_view c.args.inquiry) (g.O.Write.contents c.args.output.now) (g.O.Write.contents c.judge_read.new.output)
     (c.in_ok-has_named.ensures.yes c.if-not-branch.false) (λ never. never)
     (judgement_ending fail_on (Err c.in-Err.fault)) (c.in-Err.ensures.written fail_on)

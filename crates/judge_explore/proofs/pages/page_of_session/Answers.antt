@@ -6,7 +6,7 @@ use Rattle.def_format.specs.Reports.{Report}
 use Rattle.pd_gather.specs.Views.{results_view, traces_view}
 use Rattle.def_judgement.specs.Judgements.{IsJudgement, IsReportOfResults, IsTracesReport, RawStream, events_of_traces}
 use Rattle.def_model.specs.Events.{Computation}
-use Rattle.out_page.specs.Views.{extras_view, sources_view}
+use Rattle.out_page.specs.Views.{sources_view}
 use Rattle.out_page.specs.declared.source.Source.{Source}
 use Rattle.pd_spec.specs.Views.{document_view}
 use Rattle.judge_session.specs.Inquiries.{inquiry_view}
@@ -18,6 +18,7 @@ use Rattle.judge_session.proofs.FitTraces.{same_events}
 use Rattle.read_traces.specs.Views.{computation_view}
 use Rattle.read_traces.specs.declared.event.Trace.{Trace}
 use Rattle.judge_explore.specs.FileViews.{files_view}
+use Rattle.judge_explore.specs.Forms.{form_view}
 use Rattle.judge_explore.specs.Sources.{sources_of}
 use Rattle.judge_explore.specs.Explored.{IsPageOfInputs, IsPageOfTraces}
 use Rattle.judge_explore.proofs.SessionPages.{inputs_page, refused_weaker}
@@ -49,7 +50,7 @@ returns-in_err-traces-clause-refused g c =
 pub returns-clause-page : goal.returns-clause-page
 returns-clause-page g c =
     let asked = inquiry_view c.args.inquiry in
-    let extras = extras_view c.args.extras.now in
+    let form = form_view c.args.form in
     let files = files_view c.args.files.now in
     let inputs = map g.R.ByteSource.left c.args.readers.items in
     let document = document_view c.in_ok-spec.spec in
@@ -63,16 +64,16 @@ returns-clause-page g c =
     ∙ ap (λ (events : Computation). sources_of document.names files 0 events)
     (same_events c.in_ok-traces.traces.items) in
     IfOk-weaker c.page_of_traces.result
-    (λ page. IsPageOfTraces document extras sources traces (IsGiven (Ok page.report)) page.text.items)
-    (λ page. IsPageOfInputs asked extras files inputs (IsGiven (Ok page.report)) page.text.items)
-    (λ page is. inputs_page asked extras files inputs document count results sources traces
+    (λ page. IsPageOfTraces document form sources traces (IsGiven (Ok page.report)) page.text.items)
+    (λ page. IsPageOfInputs asked form files inputs (IsGiven (Ok page.report)) page.text.items)
+    (λ page is. inputs_page asked form files inputs document count results sources traces
     (IsGiven (Ok page.report)) page.text.items
     c.in_ok-spec.ensures.read c.in_ok-gathered.ensures.given c.in_ok-traces.ensures.joined recorded is)
     (subst (λ (all : List Trace). IfOk c.page_of_traces.result
-    (λ page. IsPageOfTraces document extras sources (traces_view all) (IsGiven (Ok page.report)) page.text.items))
+    (λ page. IsPageOfTraces document form sources (traces_view all) (IsGiven (Ok page.report)) page.text.items))
     c.deref-3.ensures.value
     (subst (λ (found : List Source). IfOk c.page_of_traces.result
-    (λ page. IsPageOfTraces document extras (sources_view found) (traces_view c.deref-3.result.now)
+    (λ page. IsPageOfTraces document form (sources_view found) (traces_view c.deref-3.result.now)
     (IsGiven (Ok page.report)) page.text.items)) c.deref-2.ensures.value c.page_of_traces.ensures.page))
 
 pub returns-clause-refused : goal.returns-clause-refused

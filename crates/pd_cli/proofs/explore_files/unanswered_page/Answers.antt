@@ -2,5 +2,5 @@
 use Rattle.pd_cli.proofs.explore_files.unanswered_page.Goals as goal
 
 pub returns-in_ok-page-in-Refused-clause-page : goal.returns-in_ok-page-in-Refused-clause-page
-returns-in_ok-page-in-Refused-clause-page g c = λ inquiry extras files inputs own.
-    c.in_ok-page-in-Refused.ensures inquiry extras files inputs (rw c.in-Refused.is at own)
+returns-in_ok-page-in-Refused-clause-page g c = λ inquiry files inputs own.
+    c.in_ok-page-in-Refused.ensures inquiry files inputs (rw c.in-Refused.is at own)

@@ -8,9 +8,9 @@ returns g c = record {
   start = g.E.Write.contents c.write_explanation.new.errors;
   explanation = c.write_explanation.ensures;
   reported = record {
-    ending = named_ending (fail_on_view c.args.judgement.now.fail_on) c.judge_files-end.result;
+    ending = named_ending (fail_on_view c.args.judgement.now.fail_on) c.judge_files_in-end.result;
     is_status = c.report_judgement.ensures.status;
-    output = c.judge_files-end.ensures;
+    output = c.judge_files_in-end.ensures;
     errors = c.report_judgement.ensures.errors;
   };
 }
