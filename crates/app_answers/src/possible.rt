@@ -28,7 +28,7 @@ fn say_values(
     process: usize,
 ) {
     let vars = vars_of(session.spec.names(), process);
-    let Some(values) = out.given(named_values(alloc, tree, state, process, vars.len())) else {
+    let Some(values) = out.take_made(named_values(alloc, tree, state, process, vars.len())) else {
         return;
     };
     let mut before = ": ";
@@ -107,7 +107,7 @@ pub(crate) fn say_possible(
         out.say(" can happen: it names no variable, and is true.\n");
         return;
     }
-    let Some(cut) = out.given(Cut::new(alloc, counts)) else {
+    let Some(cut) = out.take_made(Cut::new(alloc, counts)) else {
         return;
     };
     if !session.computation.fits(&cut) {

@@ -214,7 +214,7 @@ fn say_messages(out: &mut Text, alloc: Global, session: &Session<'_, '_>, causes
     if count > SHOWN {
         return;
     }
-    let Some(pairs) = out.given(own_orders(alloc, session.computation, shown)) else {
+    let Some(pairs) = out.take_made(own_orders(alloc, session.computation, shown)) else {
         return;
     };
     say_own_orders(out, session, &pairs);
@@ -241,7 +241,8 @@ pub(crate) fn say_why_not<R: RandomSource>(
         pred,
     };
     let trials = trials_for(session, pred.tree());
-    let Some(found) = out.given(causes_of(rt, alloc, &asked, session.computation, trials)) else {
+    let Some(found) = out.take_made(causes_of(rt, alloc, &asked, session.computation, trials))
+    else {
         return;
     };
     let Some(causes) = found else {

@@ -1,7 +1,7 @@
 //! An explanation of how a batch ended.
-use app_ends::{put_fault, rows_of};
+use app_ends::put_fault;
 use app_host::{System, World};
-use app_text::Text;
+use app_text::{Text, rows_of};
 use judge_runs::Conclusion;
 use judge_session::EngineFault;
 

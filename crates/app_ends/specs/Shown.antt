@@ -1,7 +1,6 @@
 -- What was read of files and of the parts of a bundle, as it is explained.
-use Rattle.std.specs.Prelude.{◌≡◌, ◌⊎◌, ℕ, if◌then◌else◌, List, [], ◌∷◌, codes, map, string_bytes, Option, Some, None, option_map, MatchOption}
+use Rattle.std.specs.Prelude.{◌≡◌, ℕ, if◌then◌else◌, List, [], ◌∷◌, codes, map, string_bytes, Option, Some, None, option_map, MatchOption}
 use Rattle.std.specs.Str.{bytes_eq}
-use Rattle.app_text.specs.Rows.{IsInRows}
 use Rattle.app_text.specs.declared.source.Source.{Source}
 use Rattle.app_explain.specs.declared.seen.SeenStream.{SeenStream}
 use Rattle.app_ends.specs.declared.seen_parts.Part.{Part}
@@ -47,7 +46,3 @@ later_views (part ∷ parts) = map (λ it. Some (part_view it)) parts
 -- what is known of the bytes of a stream
 abbrev pub bytes_view : SeenStream → Option Shown
 bytes_view stream = option_map source_view stream.source
-
--- the text in rows, or as it is
-abbrev pub AreRowsOrText : List ℕ → List ℕ → Type 0
-AreRowsOrText text shown = IsInRows text shown ⊎ (shown ≡ text)

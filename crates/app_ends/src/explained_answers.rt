@@ -118,7 +118,7 @@ fn put_read<T: RandomSource + Threads + Wait + Sync>(
     judged: Judged,
     answers: &[Answer],
 ) {
-    let Some(Some(streams)) = out.given(bytes_of(alloc, seen.streams)) else {
+    let Some(Some(streams)) = out.take_made(bytes_of(alloc, seen.streams)) else {
         explain_answers(out, answers, judged);
         return;
     };
@@ -126,7 +126,7 @@ fn put_read<T: RandomSource + Threads + Wait + Sync>(
         explain_answers(out, answers, judged);
         return;
     };
-    let Some(sources) = out.given(sources_of(alloc, &read.spec, seen.streams)) else {
+    let Some(sources) = out.take_made(sources_of(alloc, &read.spec, seen.streams)) else {
         return;
     };
     put_traces(

@@ -1,6 +1,4 @@
 //! Explains how a run ended, by what it has read.
-ghost use Rattle.app_ends.specs.Shown.{AreRowsOrText};
-
 use super::explained_answers::put_answers;
 use super::reasons::put_reasons;
 use super::seen_files::{seen_document, seen_file, seen_streams};
@@ -14,7 +12,7 @@ use app_explain::{
     explain_no_predicate, explain_output, explain_refusal, explain_unread_finding,
 };
 use app_host::{FileSource, Note, System, World, check_seen};
-use app_text::{Source, Text, in_rows, line_at};
+use app_text::{Source, Text, line_at, rows_of};
 use def_format::STREAM_BYTE_LIMIT;
 use judge_draw::DrawOutcome;
 use judge_session::EngineFault;
@@ -103,16 +101,6 @@ fn put_output<Y: System>(out: &mut Text, world: &World<'_, Y>) {
     explain_output(out);
 }
 
-/// The lines of an explanation in rows, or as they are if memory is refused.
-pub fn rows_of(alloc: Global, text: Text) -> Vec<u8>
-    ensures { AreRowsOrText text.bytes result.items }
-{
-    match in_rows(alloc, text.bytes()) {
-        Ok(rows) => rows,
-        Err(_) => text.into_bytes(),
-    }
-}
-
 /// Explains a fault of a run that reads a document, a report, if there is one, and streams.
 pub fn put_fault<Y: System>(
     out: &mut Text,
@@ -153,7 +141,7 @@ fn put_files_report<Y: System>(
     report: &Report,
 ) {
     let names = &judgement.names;
-    let Some(streams) = out.given(seen_streams(world.alloc, world.notes, &names.streams)) else {
+    let Some(streams) = out.take_made(seen_streams(world.alloc, world.notes, &names.streams)) else {
         return;
     };
     let mut unread = Text::new(world.alloc);
@@ -269,7 +257,7 @@ fn put_exploration<Y: System>(
             }
         }
         Err(fault) => {
-            let Some(all) = out.given(names_beside(world.alloc, names, page)) else {
+            let Some(all) = out.take_made(names_beside(world.alloc, names, page)) else {
                 return;
             };
             put_fault(out, world, None, names.spec, &all, fault);
@@ -301,7 +289,7 @@ fn put_noted_refusal<Y: System>(
     notes: Option<&EventNotes>,
     refusal: &Refusal,
 ) {
-    let Some(streams) = out.given(seen_streams(world.alloc, world.notes, &names.streams)) else {
+    let Some(streams) = out.take_made(seen_streams(world.alloc, world.notes, &names.streams)) else {
         return;
     };
     let seen = Seen {
@@ -368,10 +356,10 @@ fn put_bundle_report<Y: System>(
         put_parts_report(out, world, None, &[], widest, report);
         return;
     };
-    let Some(parts) = out.given(parts_of(world.alloc, bundle)) else {
+    let Some(parts) = out.take_made(parts_of(world.alloc, bundle)) else {
         return;
     };
-    let Some(streams) = out.given(streams_of(world.alloc, &parts)) else {
+    let Some(streams) = out.take_made(streams_of(world.alloc, &parts)) else {
         return;
     };
     put_parts_report(out, world, document_of(&parts), &streams, widest, report);
@@ -452,7 +440,7 @@ fn put_finding<Y: System>(
     report: &str,
     names: &SessionNames<'_>,
 ) {
-    let Some(streams) = out.given(stream_bytes(world, names.streams.len())) else {
+    let Some(streams) = out.take_made(stream_bytes(world, names.streams.len())) else {
         return;
     };
     let document = seen_document(world.notes, names.spec);

@@ -48,7 +48,7 @@ fn say_reason(out: &mut Text, reason: &Reason<'_, '_>) {
 
 /// Says of each condition that a report meets by which answers, one line for each.
 pub fn put_reasons(out: &mut Text, alloc: Global, fail_on: &FailOn<'_>, report: &Report) {
-    let Some(reasons) = out.given(fail_on.reasons(alloc, report)) else {
+    let Some(reasons) = out.take_made(fail_on.reasons(alloc, report)) else {
         return;
     };
     for reason in &reasons {

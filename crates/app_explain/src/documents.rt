@@ -90,7 +90,7 @@ pub fn explain_document_word(out: &mut Text, word: DocumentWord) {
 
 /// Shows where the document stops being a JSON text.
 fn show_json(out: &mut Text, alloc: Global, source: &Source<'_>) {
-    let Some(Some(found)) = out.given(json_place(alloc, source.bytes)) else {
+    let Some(Some(found)) = out.take_made(json_place(alloc, source.bytes)) else {
         return;
     };
     if source.bytes.is_empty() {
@@ -131,7 +131,7 @@ fn say_other_file(out: &mut Text, alloc: Global, bytes: &[u8], word: DocumentWor
         out.say(said_of(kind));
         return true;
     }
-    let Some(Some(process)) = out.given(joined_name(alloc, bytes)) else {
+    let Some(Some(process)) = out.take_made(joined_name(alloc, bytes)) else {
         return false;
     };
     out.say("It is the stream of process ");

@@ -79,12 +79,12 @@ pub(crate) fn say_expected_tokens(
     };
     let mut is_first = true;
     for (token, said) in TRIED {
-        if out.given(may_follow(alloc, names, begin, token)) == Some(true) {
+        if out.take_made(may_follow(alloc, names, begin, token)) == Some(true) {
             say_part(out, is_first, said);
             is_first = false;
         }
     }
-    if out.given(may_follow(alloc, names, begin, "a")) == Some(true) {
+    if out.take_made(may_follow(alloc, names, begin, "a")) == Some(true) {
         let named = if ends_with_dot(begin) {
             "the name of a variable"
         } else {

@@ -88,7 +88,7 @@ pub fn explain_no_predicate(
     out.say(", which ");
     out.say(option);
     out.say(" names.\n");
-    let Some(names) = out.given(predicate_texts(alloc, predicates)) else {
+    let Some(names) = out.take_made(predicate_texts(alloc, predicates)) else {
         return;
     };
     say_near(out, alloc, name, &names, "");

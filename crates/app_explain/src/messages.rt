@@ -135,7 +135,7 @@ pub fn show_other(
         if number == 0 || number == but {
             continue;
         }
-        let Some(is_other) = out.given(has_id(alloc, record.bytes, others.field, id)) else {
+        let Some(is_other) = out.take_made(has_id(alloc, record.bytes, others.field, id)) else {
             return None;
         };
         if is_other {
@@ -173,7 +173,7 @@ pub fn show_step(out: &mut Text, alloc: Global, source: Option<&Source<'_>>, eve
         out.say(".\n");
         return;
     };
-    let Some(id) = out.given(message_of(alloc, source.bytes, event.number)) else {
+    let Some(id) = out.take_made(message_of(alloc, source.bytes, event.number)) else {
         return;
     };
     if let Some(id) = id {

@@ -49,7 +49,7 @@ pub(crate) fn say_near(
     if given.len() > LENGTH_LIMIT {
         return false;
     }
-    let Some(found) = out.given(place_of_nearest(alloc, given, names)) else {
+    let Some(found) = out.take_made(place_of_nearest(alloc, given, names)) else {
         return false;
     };
     let Some(name) = found.and_then(|place| names.get(place)) else {

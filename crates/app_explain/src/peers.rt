@@ -90,7 +90,7 @@ fn show_sent_line(
         return;
     };
     let process = sender.process.and_then(|name| names.find(name));
-    let Some(place) = out.given(place_in_record(alloc, names, process, line, fault.word)) else {
+    let Some(place) = out.take_made(place_in_record(alloc, names, process, line, fault.word)) else {
         return;
     };
     out.show_line_of(number, line, place);

@@ -93,11 +93,11 @@ fn form_for(before: &[u8], rest: &[u8]) -> &'static str {
 
 /// Says which word of predicates is near to this one, in capital letters too, if it may follow a text.
 fn say_near_word(out: &mut Text, alloc: Global, names: &Names, begin: &str, word: &str) {
-    let Some(word) = out.given(word.to_ascii_lowercase(alloc)) else {
+    let Some(word) = out.take_made(word.to_ascii_lowercase(alloc)) else {
         return;
     };
     for known in WORDS {
-        let may_follow = out.given(may_follow(alloc, names, begin, known)) == Some(true);
+        let may_follow = out.take_made(may_follow(alloc, names, begin, known)) == Some(true);
         if may_follow && say_near(out, alloc, &word, &[known], "") {
             return;
         }
@@ -119,13 +119,13 @@ pub(crate) fn say_meant_form(
         return;
     }
     let begin = str::from_utf8(before).unwrap_or("");
-    if is_comparison(rest) && out.given(may_follow(alloc, names, begin, "and")) == Some(true) {
+    if is_comparison(rest) && out.take_made(may_follow(alloc, names, begin, "and")) == Some(true) {
         out.say("A comparison has two sides: for 1 < a.x < 3 write 1 < a.x and a.x < 3.\n");
         return;
     }
     let word = first_word(rest);
     let is_truth = word == "true" || word == "false";
-    if is_truth && out.given(may_follow(alloc, names, begin, "1")) == Some(true) {
+    if is_truth && out.take_made(may_follow(alloc, names, begin, "1")) == Some(true) {
         out.say(VALUES);
         return;
     }
@@ -151,10 +151,10 @@ fn dotted(alloc: Global, process: &str) -> Result<String, AllocError> {
 
 /// Says which variable may have been meant by a name that the process before it has not.
 fn say_meant_var(out: &mut Text, alloc: Global, names: &Names, process: usize, word: &str) {
-    let Some(vars) = out.given(var_texts(alloc, names, process)) else {
+    let Some(vars) = out.take_made(var_texts(alloc, names, process)) else {
         return;
     };
-    let Some(before) = out.given(dotted(alloc, name_at(names, process))) else {
+    let Some(before) = out.take_made(dotted(alloc, name_at(names, process))) else {
         return;
     };
     if !say_near(out, alloc, word, &vars, &before) {
@@ -179,7 +179,7 @@ pub(crate) fn say_meant_name(
         return;
     }
     if begins_with_dot(rest.get(word.len()..).unwrap_or(&[])) {
-        let Some(processes) = out.given(process_texts(alloc, names)) else {
+        let Some(processes) = out.take_made(process_texts(alloc, names)) else {
             return;
         };
         let _ = say_near(out, alloc, word, &processes, "");

@@ -178,7 +178,7 @@ fn show_text(
     out.say_number(fault.at);
     out.say(" of the predicate's text:\n");
     out.show_line(text.as_bytes(), Some(place));
-    let Some(Some(spec)) = out.given(bare_document(alloc, document)) else {
+    let Some(Some(spec)) = out.take_made(bare_document(alloc, document)) else {
         return;
     };
     match fault.word {

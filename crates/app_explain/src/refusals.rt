@@ -107,7 +107,7 @@ fn put_unread(out: &mut Text, alloc: Global, stream: &SeenStream<'_>, fault: Str
         explain_stream_with(out, fault, stream.file, "");
         return;
     }
-    let Some(said) = out.given(format!(in alloc; "The system says: {why}")) else {
+    let Some(said) = out.take_made(format!(in alloc; "The system says: {why}")) else {
         return;
     };
     explain_stream_with(out, fault, stream.file, &said);
@@ -160,13 +160,13 @@ fn put_taken(
     stream: &SeenStream<'_>,
     fault: StreamFault,
 ) {
-    let Some(Some(process)) = out.given(process_of(alloc, stream)) else {
+    let Some(Some(process)) = out.take_made(process_of(alloc, stream)) else {
         explain_stream_with(out, fault, stream.file, "");
         return;
     };
-    let why = match out.given(stream_of(alloc, seen, &process)) {
+    let why = match out.take_made(stream_of(alloc, seen, &process)) {
         Some(Some((place, other, _))) => {
-            out.given(other_stream(alloc, place, other.file, &process))
+            out.take_made(other_stream(alloc, place, other.file, &process))
         }
         _ => None,
     };
@@ -185,7 +185,7 @@ fn put_line(
         Some(spec) => explain_stream(out, alloc, spec.names(), *stream, seen.order, fault),
         None => explain_stream_word(out, fault, stream.file, seen.order),
     }
-    match (stream.source, out.given(process_of(alloc, stream))) {
+    match (stream.source, out.take_made(process_of(alloc, stream))) {
         (Some(source), Some(Some(process))) => {
             put_last_note(out, seen.notes, &process, source.bytes, fault.line);
         }
@@ -211,7 +211,7 @@ fn put_absent(out: &mut Text, alloc: Global, seen: Seen<'_>, process: &str) {
     explain_absent(out, process);
     for stream in seen.streams {
         if let Some(source) = stream.source {
-            let Some(found) = out.given(process_of(alloc, stream)) else {
+            let Some(found) = out.take_made(process_of(alloc, stream)) else {
                 return;
             };
             show_join(out, source.name, found.as_deref());
@@ -257,7 +257,7 @@ fn put_other(
     let Some(number) = show_other(out, alloc, source, others, id, but) else {
         return false;
     };
-    if let Some(Some(process)) = out.given(joined_name(alloc, source.bytes)) {
+    if let Some(Some(process)) = out.take_made(joined_name(alloc, source.bytes)) {
         let process = process.as_str();
         put_note(out, seen.notes, EventName { process, number });
     }
@@ -289,7 +289,7 @@ fn put_event(
     event: EventName<'_>,
     word: MessageWord,
 ) {
-    let Some(Some((place, _, source))) = out.given(stream_of(alloc, seen, event.process)) else {
+    let Some(Some((place, _, source))) = out.take_made(stream_of(alloc, seen, event.process)) else {
         return;
     };
     show_event(out, &source, event);
@@ -297,7 +297,7 @@ fn put_event(
     if word == MessageWord::Orphan {
         return;
     }
-    let Some(Some(id)) = out.given(message_of(alloc, source.bytes, event.number)) else {
+    let Some(Some(id)) = out.take_made(message_of(alloc, source.bytes, event.number)) else {
         return;
     };
     let others = others_of(word);
@@ -312,13 +312,13 @@ fn put_event(
 
 /// Shows an event of a causal cycle, and where its message is sent.
 fn put_step(out: &mut Text, alloc: Global, seen: Seen<'_>, event: EventName<'_>) {
-    let Some(Some((place, _, source))) = out.given(stream_of(alloc, seen, event.process)) else {
+    let Some(Some((place, _, source))) = out.take_made(stream_of(alloc, seen, event.process)) else {
         show_step(out, alloc, None, event);
         return;
     };
     show_step(out, alloc, Some(&source), event);
     put_note(out, seen.notes, event);
-    let Some(found) = out.given(message_of(alloc, source.bytes, event.number)) else {
+    let Some(found) = out.take_made(message_of(alloc, source.bytes, event.number)) else {
         return;
     };
     match found {

@@ -179,11 +179,11 @@ fn show_fault(
         return;
     }
     let line = line_at(source.bytes, fault.line);
-    let process = match out.given(joined_name(alloc, source.bytes)) {
+    let process = match out.take_made(joined_name(alloc, source.bytes)) {
         Some(Some(name)) => names.find(&name),
         _ => None,
     };
-    let Some(place) = out.given(place_in_record(alloc, names, process, line, fault.word)) else {
+    let Some(place) = out.take_made(place_in_record(alloc, names, process, line, fault.word)) else {
         return;
     };
     out.show_numbered(source, fault.line, line, place);
@@ -211,14 +211,14 @@ fn say_known(out: &mut Text, names: &Names, process: Option<usize>, word: Stream
 
 /// Says which process is near to the one of this name, which there isn't.
 fn say_near_process(out: &mut Text, alloc: Global, names: &Names, name: &str) {
-    if let Some(known) = out.given(process_texts(alloc, names)) {
+    if let Some(known) = out.take_made(process_texts(alloc, names)) {
         let _ = say_near(out, alloc, name, &known, "");
     }
 }
 
 /// Says which variable of this process is near to the one of this name, which there isn't.
 fn say_near_var(out: &mut Text, alloc: Global, names: &Names, process: usize, name: &str) {
-    if let Some(known) = out.given(var_texts(alloc, names, process)) {
+    if let Some(known) = out.take_made(var_texts(alloc, names, process)) {
         let _ = say_near(out, alloc, name, &known, "");
     }
 }
@@ -239,7 +239,7 @@ fn say_meant(
     line: &[u8],
     word: StreamWord,
 ) {
-    let Some(Some(name)) = out.given(name_in_record(alloc, names, process, line, word)) else {
+    let Some(Some(name)) = out.take_made(name_in_record(alloc, names, process, line, word)) else {
         return;
     };
     match (word, process) {
@@ -275,7 +275,7 @@ fn say_other_file(out: &mut Text, alloc: Global, bytes: &[u8], word: StreamWord)
         out.say(said_of(kind));
         return true;
     }
-    if out.given(is_document(alloc, bytes)) != Some(true) {
+    if out.take_made(is_document(alloc, bytes)) != Some(true) {
         return false;
     }
     out.say(
@@ -298,7 +298,7 @@ pub fn explain_stream(
         explain_stream_word(out, fault, stream.file, order);
         return;
     };
-    let Some(joined) = out.given(joined_name(alloc, source.bytes)) else {
+    let Some(joined) = out.take_made(joined_name(alloc, source.bytes)) else {
         return;
     };
     let process = joined.as_deref();

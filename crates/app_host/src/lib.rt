@@ -13,6 +13,7 @@
 //! - `line`: writes a line to the errors
 //! - `flushed_output`: writes a text and flushes the output
 //! - `status`: exit statuses, and the lines that report faults
+//! - `replaced_file`: writes a file whole or not at all
 //! - `session_files`: opens and reads the files of a session
 //! - `claim_files`: the files of a report and of the session that it is said to be of
 //! - `named`: looks up the predicates that conditions name
@@ -37,6 +38,7 @@ mod network;
 mod note;
 mod noted_source;
 mod notes;
+mod replaced_file;
 mod session_files;
 mod status;
 mod world;
@@ -55,6 +57,7 @@ pub use network::Network;
 pub use note::Note;
 pub use noted_source::NotedSource;
 pub use notes::Notes;
+pub use replaced_file::replace_file;
 pub use session_files::{open_noted, read_document, read_session};
 pub use status::{
     ALARMED, FAILED, MISUSED, REFUSED, SUCCESS, conclusion_status, report_bundle, report_end,

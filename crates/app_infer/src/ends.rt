@@ -5,9 +5,9 @@ ghost use Rattle.std.specs.Prelude.{◌≡◌};
 
 use super::advice::{expected, session_advice, stream_advice};
 use super::outcome::{InferOutcome, Reason};
-use app_ends::{put_fault, rows_of};
+use app_ends::put_fault;
 use app_host::{REFUSED, SUCCESS, System, World, report_fault, write_line};
-use app_text::{Source, Text, line_at};
+use app_text::{Source, Text, line_at, rows_of};
 use judge_session::EngineFault;
 use std::io::Write;
 

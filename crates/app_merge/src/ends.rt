@@ -4,9 +4,9 @@ ghost use Rattle.app_merge.specs.Merges.{conclusion_status, merge_report};
 ghost use Rattle.std.specs.Prelude.{◌≡◌};
 
 use super::outcome::{LineWrong, MergeOutcome};
-use app_ends::{put_fault, rows_of};
+use app_ends::put_fault;
 use app_host::{ALARMED, REFUSED, SUCCESS, System, World, report_fault, write_line};
-use app_text::Text;
+use app_text::{Text, rows_of};
 use judge_session::EngineFault;
 use judge_summary::Conclusion;
 use std::io::Write;

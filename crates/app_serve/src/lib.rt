@@ -11,7 +11,6 @@
 //! - `port_file`: writes the ports of a server into a file
 //! - `watchers`: shows watchers how far the streams are read
 //! - `kept_session`: keeps the session of a server as files of a folder
-//! - `explained_services`: explains how a server's run ended
 //! - `senders`: who sent the streams of a server
 //! - `peer`: what is known of who sends one stream
 //! - `peers`: of each stream
@@ -23,7 +22,6 @@
 #![tactic(auto)]
 
 mod arrivals;
-mod explained_services;
 mod host;
 mod keeping;
 mod kept_session;
@@ -43,10 +41,11 @@ mod start_recorder;
 mod strangers;
 mod watchers;
 
-pub use explained_services::service_text;
 pub use host::Host;
 pub use peers::Peers;
-pub use port_file::replace_file;
+pub use place_names::{PlaceName, streams_name, watchers_name};
+pub use senders::{KnownSender, known_senders, senders_of};
 pub use server::serve;
 pub use service_fault::ServiceFault;
 pub use service_status::report_service_end;
+pub use strangers::{explain_unread_token, say_idle, say_strangers};

@@ -10,7 +10,7 @@ use std::alloc::{AllocError, Global};
 
 /// What a place is called.
 #[derive(Drop)]
-pub(crate) enum PlaceName {
+pub enum PlaceName {
     /// By its port, as one of 127.0.0.1.
     Port(u64),
     /// By an address and a port.
@@ -21,7 +21,7 @@ pub(crate) enum PlaceName {
 
 impl PlaceName {
     /// The same, as it is shown.
-    pub(crate) fn shown(&self) -> ServedPlace<'_> {
+    pub fn shown(&self) -> ServedPlace<'_> {
         match self {
             PlaceName::Port(port) => ServedPlace::Port(*port),
             PlaceName::Address(text) => ServedPlace::Address(text.as_str()),
@@ -63,7 +63,7 @@ fn port_name(alloc: Global, address: Option<&str>, port: u16) -> Result<PlaceNam
 ///
 /// # Errors
 /// Out of memory.
-pub(crate) fn streams_name<F, N>(host: &Host<'_, F, N>) -> Result<PlaceName, AllocError> {
+pub fn streams_name<F, N>(host: &Host<'_, F, N>) -> Result<PlaceName, AllocError> {
     match &host.service.place {
         Place::Port(address, port) => {
             let bound = host.peers.port().unwrap_or(*port);
@@ -77,7 +77,7 @@ pub(crate) fn streams_name<F, N>(host: &Host<'_, F, N>) -> Result<PlaceName, All
 ///
 /// # Errors
 /// Out of memory.
-pub(crate) fn watchers_name<F, N>(host: &Host<'_, F, N>) -> Result<PlaceName, AllocError> {
+pub fn watchers_name<F, N>(host: &Host<'_, F, N>) -> Result<PlaceName, AllocError> {
     match &host.service.place {
         Place::Port(address, port) => {
             let bound = host.peers.watchers_port().unwrap_or(watchers_port(*port));

@@ -5,39 +5,11 @@ ghost use Rattle.std.specs.Prelude.{◌≡◌, ◌≢◌, ◌⊎◌, IfErr, None
 
 use super::host::Host;
 use super::service_fault::ServiceFault;
-use app_host::FileSource;
+use app_host::{FileSource, replace_file};
 use judge_session::EngineFault;
 use std::alloc::AllocError;
 use std::io;
-use std::io::{ErrorKind, Write};
-
-/// Writes these bytes to a file that was made, and flushes it.
-fn fill<W: Write>(file: &mut W, bytes: &[u8]) -> io::Result<()> {
-    file.write_all(bytes)?;
-    file.flush()
-}
-
-/// Makes the file of the one name, with these bytes, and then gives it the other name, in place of the file that has
-/// that. If one of the two fails, nothing is left of the new file.
-///
-/// # Errors
-/// What kept it from that; also that there is a file of the one name.
-pub fn replace_file<F: FileSource>(
-    files: &F,
-    new: &str,
-    name: &str,
-    bytes: &[u8],
-) -> io::Result<()> {
-    let mut file = files.create(new)?;
-    let replaced = match fill(&mut file, bytes) {
-        Ok(()) => files.rename(new, name),
-        Err(error) => Err(error),
-    };
-    if replaced.is_err() {
-        let _ = files.remove(new);
-    }
-    replaced
-}
+use std::io::ErrorKind;
 
 /// The lines of the ports that are bound; none, if one isn't known.
 fn ports_text<F, N>(host: &Host<'_, F, N>) -> Result<Option<String>, AllocError> {

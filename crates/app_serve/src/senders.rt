@@ -56,7 +56,7 @@ pub fn known_senders(
 ///
 /// # Errors
 /// Out of memory.
-pub fn senders<'a>(
+pub fn senders_of<'a>(
     alloc: Global,
     peers: &'a Peers,
     known: &'a [KnownSender],

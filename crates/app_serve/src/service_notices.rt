@@ -3,16 +3,15 @@ use super::host::Host;
 use super::kept_session::stream_names;
 use super::notices::Notices;
 use super::place_names::{PlaceName, streams_name, watchers_name};
-use super::senders::{known_senders, senders};
+use super::senders::{known_senders, senders_of};
 use super::strangers::{door_text, open_door_text};
 use app_arguments::Place;
-use app_ends::rows_of;
 use app_explain::{
     StreamFault as NamedFault, StreamWord, joined_name, tell_connection, tell_places, tell_refusal,
     tell_start, tell_stop, warn_of_open,
 };
 use app_host::{FileSource, Network, is_loopback};
-use app_text::Text;
+use app_text::{Text, rows_of};
 use judge_session::stream_word;
 use pd_engine::{Spec, StreamFault};
 use std::alloc::{AllocError, Global};
@@ -112,7 +111,7 @@ fn stream_text<F, N>(
     event: Event,
 ) -> Result<Text, AllocError> {
     let known = known_senders(host.alloc, host.peers, host.peers.count())?;
-    let senders = senders(host.alloc, host.peers, &known)?;
+    let senders = senders_of(host.alloc, host.peers, &known)?;
     let mut out = Text::new(host.alloc);
     if let Some(sender) = senders.get(place) {
         match event {

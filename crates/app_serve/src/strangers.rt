@@ -1,9 +1,8 @@
 //! Tells of connections that are closed before they are streams.
 use super::host::Host;
 use app_door::{PATIENCE, ROOM_LIMIT, Stranger, StrangerReason};
-use app_ends::rows_of;
 use app_host::Network;
-use app_text::Text;
+use app_text::{Text, rows_of};
 use std::alloc::Global;
 
 /// What begins a line that is told while a server runs.
@@ -86,7 +85,7 @@ pub(crate) fn tell_stranger<F, N: Network>(host: &Host<'_, F, N>, stranger: &Str
 }
 
 /// Puts how many connections were closed before they were streams, and how many still waited, if there are any.
-pub(crate) fn say_strangers<F, N>(out: &mut Text, host: &Host<'_, F, N>) {
+pub fn say_strangers<F, N>(out: &mut Text, host: &Host<'_, F, N>) {
     let (closed, waiting) = (host.peers.strangers(), host.peers.waiting());
     if closed > 0 {
         out.say("Connections that were closed since they joined no process without a stream: ");
@@ -101,7 +100,7 @@ pub(crate) fn say_strangers<F, N>(out: &mut Text, host: &Host<'_, F, N>) {
 }
 
 /// Puts after how many seconds of silence a stream ends, if it does.
-pub(crate) fn say_idle<F, N>(out: &mut Text, host: &Host<'_, F, N>) {
+pub fn say_idle<F, N>(out: &mut Text, host: &Host<'_, F, N>) {
     let Some(seconds) = host.service.admission.idle else {
         return;
     };
@@ -136,7 +135,7 @@ it is, and none of watchers. Bind an address of a private network only.\n",
 }
 
 /// Explains that the file of the token can't be read: which file, and why.
-pub(crate) fn explain_unread_token(out: &mut Text, why: &str) {
+pub fn explain_unread_token(out: &mut Text, why: &str) {
     out.say("The file of the token can't be read. ");
     out.say_shown(why.as_bytes());
     out.say(

@@ -19,7 +19,7 @@
 //! - `run`: opens the files of a run
 //! - `records`: what is kept of the runs so far
 //! - `tests`: tests runs, some at a time
-//! - `ends`: how a test ended: the exit status, what is reported, and an explanation
+//! - `ends`: how a test ended: the exit status, and what is reported
 #![tactic(auto)]
 
 mod ends;
@@ -33,7 +33,7 @@ mod run_streams;
 mod tests;
 mod unopened;
 
-pub use ends::{PagesEnd, ResultsEnd, report_test, test_text};
+pub use ends::report_test;
 pub use records::Records;
 pub use run_document::read_run_document;
 pub use run_files::{document_in, stream_in};

@@ -59,3 +59,7 @@ pub data IsInRows : List ℕ → List ℕ → Type 0 where
   LastLine : (line text : List ℕ) → has_line_feed line ≡ false → IsShownSo line text → IsInRows line text
   LineAndMore : (line text others rows : List ℕ) → has_line_feed line ≡ false → IsShownSo line text
       → IsInRows others rows → IsInRows (line ++ line_feed ∷ others) (text ++ line_feed ∷ rows)
+
+-- the text in rows, or as it is
+abbrev pub AreRowsOrText : List ℕ → List ℕ → Type 0
+AreRowsOrText text shown = IsInRows text shown ⊎ (shown ≡ text)

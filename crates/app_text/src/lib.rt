@@ -26,6 +26,6 @@ pub use lines::{
     Record, cut_line, line_at, line_of_place, next_record, place_of_name, places_of_name,
     record_after,
 };
-pub use rows::in_rows;
+pub use rows::{in_rows, rows_of};
 pub use source::Source;
 pub use text::Text;

@@ -1,8 +1,9 @@
 //! Breaks the lines of an explanation into rows.
-ghost use Rattle.app_text.specs.Rows.{AreRows, IsInRows, IsRowLength, IsShownSo, first_columns, shows_file, without_space};
+ghost use Rattle.app_text.specs.Rows.{AreRows, AreRowsOrText, IsInRows, IsRowLength, IsShownSo, first_columns, shows_file, without_space};
 ghost use Rattle.std.specs.Prelude.{◌≡◌, ◌<◌, List, ℕ, ◌++◌, length, IfOk, OnOk};
 
 use super::lines::cut_line;
+use super::text::Text;
 use pd_report::push_bytes;
 use std::alloc::{AllocError, Global};
 
@@ -93,5 +94,15 @@ pub fn in_rows(alloc: Global, text: &[u8]) -> Result<Vec<u8>, AllocError>
             }
             None => return Ok(out),
         }
+    }
+}
+
+/// The lines of an explanation in rows, or as they are if memory is refused.
+pub fn rows_of(alloc: Global, text: Text) -> Vec<u8>
+    ensures { AreRowsOrText text.bytes result.items }
+{
+    match in_rows(alloc, text.bytes()) {
+        Ok(rows) => rows,
+        Err(_) => text.into_bytes(),
     }
 }

@@ -58,8 +58,8 @@ impl Text {
         self.bytes
     }
 
-    /// What was made for this text, or nothing if memory ran out for it: then the text goes no further.
-    pub fn given<T>(&mut self, made: Result<T, AllocError>) -> Option<T>
+    /// Takes what was made for this text, or nothing if memory ran out for it: then the text goes no further.
+    pub fn take_made<T>(&mut self, made: Result<T, AllocError>) -> Option<T>
         ensures { MatchResult made (λ value. (result ≡ Some value) × (self.new ≡ self.old))
             (λ _. (result ≡ None) × (self.new.is_whole ≡ false)) }
     {
@@ -130,7 +130,8 @@ impl Text {
 
     /// Says what another text says, and that it isn't whole if that one isn't.
     pub fn say_text(&mut self, text: &Text)
-        ensures { Says text.now.bytes self.old self.new }
+        ensures said { Says text.now.bytes self.old self.new }
+        ensures whole { self.new.is_whole ≡ true → text.now.is_whole ≡ true }
     {
         if self.is_whole {
             match self.bytes.extend_from_slice(&text.bytes) {

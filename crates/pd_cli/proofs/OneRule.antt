@@ -29,7 +29,7 @@ use Rattle.judge_runs.specs.Runs.{Fail, NotJudged, Run, conclusion_by, count_of,
 use Rattle.judge_runs.specs.Runs as judged
 use Rattle.judge_runs.specs.Wishes.{Condition, lacks_name, names_of}
 use Rattle.clap.specs.Words.{Text}
-use Rattle.pd_cli.specs.Explorations.{Asked, AskedObject, AskedPage, ExplorationLeaves, FilesLeave, IsNotesFile, IsOwedWith, OfForm, all_named, notes_of, wishes_of}
+use Rattle.app_explore.specs.Explorations.{Asked, AskedObject, AskedPage, ExplorationLeaves, FilesLeave, IsNotesFile, IsOwedWith, OfForm, all_named, notes_of, wishes_of}
 use Rattle.pd_cli.specs.RunCases.{Leaves as LeavesCase, RunsAsAsked}
 use Rattle.pd_cli.specs.Runs.{By, EndsBy, HasNamed, IsJudgedIn, IsTestAt, LeavesText, Leaves, LeavesReport, OfSession, RunsAs, due_of_report, names_in, report_of}
 

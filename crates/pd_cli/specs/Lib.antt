@@ -1,9 +1,4 @@
-pub mod Drawings
-pub mod ShownDrawings
-pub mod Explorations
 pub mod Explained
 pub mod TimeLimits
 pub mod Runs
 pub mod RunCases
-pub mod RunPages
-pub mod ResultFiles

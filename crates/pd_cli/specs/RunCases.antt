@@ -6,8 +6,8 @@ use Rattle.clap.specs.Words.{Text}
 use Rattle.def_judgement.specs.Writes.{Source}
 use Rattle.app_arguments.specs.Arguments.{AsksFor}
 use Rattle.app_arguments.specs.Statuses.{CheckFiles, DrawFiles, Ending, Ends, ExploreFiles, Failed, File, HelpLeaves, BundleRuns, InferDocument, JudgeFiles, JudgeInput, JudgeLines, JudgementLeaves, LeavesOf, MayBeUnread, MemoryFailure, MergeLines, MisuseLeaves, OfConnections, OfFinding, OfNamed, Request, ServeStreams, ServiceMayFail, ShowHelp, ShowVersion, TestRuns, Unclear, UnreadClaim, VersionLeaves, sources_of}
-use Rattle.pd_cli.specs.ShownDrawings.{EndsShown}
-use Rattle.pd_cli.specs.Explorations.{AskedPage, ExplorationLeaves, FilesLeave}
+use Rattle.app_draw.specs.ShownDrawings.{EndsShown}
+use Rattle.app_explore.specs.Explorations.{AskedPage, ExplorationLeaves, FilesLeave}
 use Rattle.app_host.specs.Formats.{IsFindingIn, IsFormatted}
 use Rattle.app_arguments.specs.Places.{Place}
 use Rattle.app_serve.specs.Kept.{WritesFiles}

@@ -20,8 +20,8 @@ use Rattle.app_test.specs.Tests.{IsTestText}
 use Rattle.app_batch.specs.Batches.{BatchLeaves}
 use Rattle.app_bundle.specs.Bundles.{BundleLeaves}
 use Rattle.app_merge.specs.Merges.{EndsMerged}
-use Rattle.pd_cli.specs.ShownDrawings.{EndsShown}
-use Rattle.pd_cli.specs.Explorations.{AskedObject, AskedPage, IsNotesFile, IsOwedWith}
+use Rattle.app_draw.specs.ShownDrawings.{EndsShown}
+use Rattle.app_explore.specs.Explorations.{AskedObject, AskedPage, IsNotesFile, IsOwedWith}
 
 -- ---- how a run ends
 

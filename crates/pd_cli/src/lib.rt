@@ -10,49 +10,26 @@
 //! document: at status 0 it is written, and at 1 a stream is refused. `serve` with a port judges streams that come by
 //! connections to that port. `explore` with the names of files judges as `judge` does: at status 0 the page is written
 //! on which the run is explored, and at 1 the page of a refusal. Whatever fails is reported in one line on the errors,
-//! after an explanation if one is wanted. What each status says stands in `specs/Drawings.antt` for `draw`, in
-//! `specs/Explorations.antt` for `explore`, and for the others in `app_arguments/specs/Statuses.antt`.
+//! after an explanation if one is wanted. What each status says stands in `app_draw/specs/Drawings.antt` for `draw`,
+//! in `app_explore/specs/Explorations.antt` for `explore`, and for the others in
+//! `app_arguments/specs/Statuses.antt`.
 //!
 //! - `program`: one run of the program, from its arguments to its exit status
 //! - `parser_error`: reports what the command line's parser has to say
 //! - `bundle`: judges the bundle on the input
-//! - `draw_report`: draws a report that has been read
-//! - `whole_files`: reads files whole, up to a limit
-//! - `draw_own`: draws a session by the report that is due
-//! - `draw_files`: draws the session in files, with a report of it or by its own
-//! - `wished`: looks up the predicates that conditions and wishes name
-//! - `page_extras`: what a page has beside its session, by what is asked for
-//! - `explore_files`: explores the session in files
-//! - `run_page`: the page of a recorded run
-//! - `page_names`: the names of the pages of recorded runs
-//! - `pages`: writes the pages of recorded runs that fail
-//! - `result_files`: writes the results of recorded runs into files
-//! - `unwritten`: which file or folder couldn't be written first, and why
-//! - `test_files`: tests recorded runs, and writes the pages of those that fail and the files of results
+//! - `explained_services`: explains how a server's run ended
 //! - `explaining`: whether the arguments ask for explanations
 //! - `time_limit`: how many seconds a run may take, by the arguments
 //! - `explanation`: writes an explanation to the errors
 #![tactic(auto)]
 
 mod bundle;
-mod draw_files;
-mod draw_own;
-mod draw_report;
+mod explained_services;
 mod explaining;
 mod explanation;
-mod explore_files;
-mod page_extras;
-mod page_names;
-mod pages;
 mod parser_error;
 mod program;
-mod result_files;
-mod run_page;
-mod test_files;
 mod time_limit;
-mod unwritten;
-mod whole_files;
-mod wished;
 
 pub use app_arguments::Place;
 pub use app_host::{FileSource, Network};

@@ -2,9 +2,9 @@
 ghost use Rattle.app_arguments.specs.Views.{place_view};
 ghost use Rattle.app_serve.specs.Kept.{AsksForFiles};
 ghost use Rattle.app_arguments.specs.Arguments.{AsksFor};
-ghost use Rattle.pd_cli.specs.Drawings.{EndsDrawn};
+ghost use Rattle.app_draw.specs.Drawings.{EndsDrawn};
 ghost use Rattle.pd_cli.specs.Explained.{Explained};
-ghost use Rattle.pd_cli.specs.Explorations.{AskedPage, ExplorationLeaves, FilesLeave};
+ghost use Rattle.app_explore.specs.Explorations.{AskedPage, ExplorationLeaves, FilesLeave};
 ghost use Rattle.app_host.specs.Faults.{named_ending};
 ghost use Rattle.pd_cli.specs.RunCases.{RunsAsAsked};
 ghost use Rattle.pd_cli.specs.Runs.{RunsAs};
@@ -24,29 +24,28 @@ ghost use Rattle.pd_spec.specs.Views.{options_view};
 ghost use Rattle.std.specs.Prelude.{◌≡◌, ◌≤◌, ◌∷◌, [], drop, false, length, map, vec_len};
 
 use super::bundle::judge_input;
-use super::draw_files::{draw_noted, report_drawing};
+use super::explained_services::service_text;
 use super::explanation::write_explanation;
-use super::explore_files::{explore_files, object_files};
-use super::pages::Pages;
 use super::parser_error::report_parser_error;
-use super::result_files::ResultFiles;
-use super::test_files::test_files;
 use app_arguments::{
     Batch, Format, Judgement, PageOptions, Request, Service, SessionNames, Test, parse,
 };
 use app_batch::{Asked, batch_lines, batch_text};
 use app_bundle::{bundle_runs, bundle_runs_text};
+use app_draw::{draw_noted, report_drawing};
 use app_ends::{
     bundle_text, check_text, drawing_text, exploration_text, judgement_text, notes_to_draw,
 };
+use app_explore::{explore_files, object_files};
 use app_host::{
     FileSource, LevelGate, Network, NotedSource, Notes, System, World, check_files, judge_files,
     report_bundle, report_end, report_judgement,
 };
 use app_infer::{infer_files, infer_text, report_infer};
 use app_merge::{merge_lines, merge_text, report_merge};
-use app_serve::{Host, Peers, report_service_end, serve, service_text};
-use app_test::{report_test, test_text};
+use app_results::{Pages, ResultFiles, test_files, test_text};
+use app_serve::{Host, Peers, report_service_end, serve};
+use app_test::report_test;
 use judge_session::EngineFault;
 use out_picture::DrawOptions;
 use pd_engine::{ByteSource, Gate, Report};

@@ -1,6 +1,6 @@
 -- What is done is what the arguments ask for.
 use Rattle.std.proofs.Common.{inr, map, subst}
-use Rattle.pd_cli.proofs.DrawingsShown.{ends_shown}
+use Rattle.app_draw.proofs.DrawingsShown.{ends_shown}
 use Rattle.pd_cli.proofs.Explanations.{unexplained}
 use Rattle.clap.specs.Values.{kind_of}
 use Rattle.app_arguments.specs.Views.{IsAsked}

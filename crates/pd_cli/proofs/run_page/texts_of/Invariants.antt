@@ -1,7 +1,0 @@
--- The texts so far.
-use Rattle.std.proofs.Common.{◌≡◌, map, take}
-use Rattle.std.specs.Prelude.{string_bytes}
-use Rattle.pd_cli.proofs.run_page.texts_of.Given as goal
-
-abbrev pub invariant-loop-text : goal.invariant-loop-text
-invariant-loop-text l = map (λ text. text.now) l.lent.items ≡ map string_bytes (take l.text-index l.texts)
