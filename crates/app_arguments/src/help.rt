@@ -63,7 +63,8 @@ definitely     the answer to definitely is yes\n  \
 definitely-no  it is no\n  \
 unknown        one of the two answers is unknown\n\n\
 With --format json the report is one line with a JSON object, for programs, in place of its lines; its field `report` \
-has these.\n\n\
+has these. Beside each cut stands where the last events before it were recorded, and what the variables are worth \
+there that the predicate names.\n\n\
 With - as SPEC and no STREAM a bundle is read from the standard input: the document and the streams, with a line --- \
 between each two.\n\n\
 With --notes an explanation says what recorders noted of the events that it names, in files beside the streams. The \
