@@ -1,10 +1,13 @@
--- Sessions in lines: what a line says.
-use Rattle.std.specs.Prelude.{ℕ, nat_lt, if◌then◌else◌, List, length, codes, Option, Some, None, option_and_then, option_map}
+-- Sessions in lines and in bundles: what a line says, and what a bundle does.
+use Rattle.std.specs.Prelude.{ℕ, nat_lt, if◌then◌else◌, List, [], length, codes, decimal, drop, get_or, Option, Some, None, option_and_then, option_map}
 use Rattle.serde_json.specs.Data.{Data}
 use Rattle.serde_json.specs.Find.{as_array, as_object, as_str, get_member}
 use Rattle.serde_json.specs.Data.{Members}
+use Rattle.def_format.specs.Bundles.{parts_of}
 use Rattle.def_format.specs.Documents.{each, field}
+use Rattle.def_format.specs.Limits.{bundle_byte_limit}
 use Rattle.def_format.specs.Records.{json_value}
+use Rattle.read_parts.specs.Texts.{texts_of_parts}
 
 -- how many bytes a line may have, without its LF: 128 MiB
 abbrev pub session_line_limit : ℕ
@@ -64,3 +67,17 @@ line_of_json (Some value) = line_of_object (as_object value)
 -- what a line says, by its bytes without an LF
 abbrev pub session_line : List ℕ → Line
 session_line bytes = if nat_lt session_line_limit (length bytes) then TooLong else line_of_json (json_value bytes)
+
+-- ---- bundles
+
+-- by the parts of a bundle, of which the first is the document: each has to be a text
+abbrev pub session_of_parts : (id : List ℕ) → Option (List (List ℕ)) → Line
+session_of_parts id None = Tells (Some id) (codes "no UTF-8")
+session_of_parts id (Some parts) =
+    Holds (record { id = Some id; document = get_or parts 0 []; streams = drop 1 parts })
+
+-- what the bundle of this number says, by its bytes; its name is the number
+abbrev pub session_bundle : (number : ℕ) → List ℕ → Line
+session_bundle number bytes =
+    if nat_lt bundle_byte_limit (length bytes) then Tells (Some (decimal number)) (codes "over 67108864 bytes")
+    else session_of_parts (decimal number) (texts_of_parts (parts_of bytes))
