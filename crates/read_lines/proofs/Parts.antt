@@ -1,12 +1,12 @@
 -- The lines that a source gave, while bytes come.
-use Rattle.std.proofs.Common.{◌≡◌, ◌<◌, ℕ, Bool, true, false, List, [], ◌∷◌, ◌++◌, length, refl, sym, ap, ◌∙◌, subst, append-nil, append_assoc, arith}
+use Rattle.std.proofs.Common.{◌≡◌, ◌<◌, ℕ, Bool, true, false, true≢false, List, [], ◌∷◌, ◌++◌, length, refl, sym, ap, ◌∙◌, subst, append-nil, append_assoc, arith}
 use Rattle.std.specs.Prelude.{◌==◌, ◌||◌, IfNone, IfSome, Option, Some, None}
 use Rattle.std.specs.Io.KnownBytes.{Consumes, IsAtEnd}
 use Rattle.std.proofs.KnownBytes.{Consumes-trans, Consumes-whole}
 use Rattle.def_format.specs.Lines.{all_lines, as_line, ended_lines, has_line_feed, line_feed, unended_line}
 use Rattle.def_format.proofs.LineFacts.{ended_lines-append, has_feed-append, no_ended_lines, or_false, unended-append, unended-no_feed}
-use Rattle.def_judgement.specs.Writes.{FailsAfter, Source}
-use Rattle.read_lines.specs.GivenLines.{AreLines, BreaksOff, Gives, HasLines, HasNext, HasPart, IsLine, State}
+use Rattle.def_judgement.specs.Writes.{FailsAfter, IsWholeInput, Source}
+use Rattle.read_lines.specs.GivenLines.{AreLines, BreaksOff, EndsIn, Gives, HasLines, HasNext, HasPart, IsLine, State}
 use Rattle.read_lines.specs.Steps.{Fills, IsInLine, IsKept, TakesPart}
 use Rattle.read_lines.specs.declared.line.Line.{Line}
 
@@ -86,6 +86,7 @@ next_line input lines kept kept_new left held rest line state at takes is_line s
         are_ended = more.1;
         goes_on = refl;
       });
+      unended = λ ended. absurd (true≢false (sym ended ∙ open'));
     }
 
 -- no LF ends the line yet
@@ -133,23 +134,45 @@ all_given None left given consumed ends = tt
 all_given (Some all) None given consumed ends = absurd consumed
 all_given (Some all) (Some rest) given consumed ends = sym (consumed ∙ ap (λ l. given ++ l) ends ∙ append-nil given)
 
--- no byte is left: the bytes so far are the last line, if there are any
-pub at_end : (input : Source) (lines : List (List ℕ)) (kept : List ℕ) (before after : Source) (held : List ℕ)
+-- no byte is left: these are all
+given_at_end : (input : Source) (lines : List (List ℕ)) (kept : List ℕ) (before after : Source) (held : List ℕ)
     (at : IsInLine input lines kept before []) → Fills false before after held
-    → AreLines input (lines ++ as_line at.part)
-at_end input lines kept before after held at fills =
+    → IsWholeInput input (at.has_part.taken ++ at.part)
+given_at_end input lines kept before after held at fills =
     let has = at.has_part in
     let consumed : Consumes input.bytes after.bytes (has.taken ++ at.part) =
     subst (Consumes input.bytes after.bytes)
     (rw (fills.none refl) (append-nil _ ∙ append-nil _))
     (Consumes-trans input.bytes before.bytes after.bytes _ held has.consumed fills.consumed) in
     record {
+      all = all_given input.bytes after.bytes (has.taken ++ at.part) consumed (fills.at_end refl);
+      ends = λ failing. fills.no_failure refl (has.same_fate ∙ failing);
+    }
+
+-- the bytes so far are the last line, if there are any
+pub at_end : (input : Source) (lines : List (List ℕ)) (kept : List ℕ) (before after : Source) (held : List ℕ)
+    (at : IsInLine input lines kept before []) → Fills false before after held
+    → AreLines input (lines ++ as_line at.part)
+at_end input lines kept before after held at fills =
+    let has = at.has_part in
+    record {
       bytes = has.taken ++ at.part;
-      is_given = record {
-        all = all_given input.bytes after.bytes (has.taken ++ at.part) consumed (fills.at_end refl);
-        ends = λ failing. fills.no_failure refl (has.same_fate ∙ failing);
-      };
+      is_given = given_at_end input lines kept before after held at fills;
       are_lines = (some_more has.taken at.part lines has.are_lines has.are_ended has.goes_on).1;
+    }
+
+-- no byte is left: the bytes so far have no LF, and those before them end with one
+pub ends_in : (input : Source) (lines : List (List ℕ)) (kept : List ℕ) (before after : Source) (held : List ℕ)
+    (at : IsInLine input lines kept before []) → Fills false before after held → EndsIn input lines at.part
+ends_in input lines kept before after held at fills =
+    let has = at.has_part in
+    let all = given_at_end input lines kept before after held at fills in
+    let more = some_more has.taken at.part lines has.are_lines has.are_ended has.goes_on in
+    record {
+      bytes = has.taken ++ at.part;
+      is_given = all;
+      are_ended = more.0;
+      is_rest = unended-append has.taken at.part ∙ rw has.are_ended (unended-no_feed at.part has.goes_on);
     }
 
 as_one_line : (bytes : List ℕ) → 0 < length bytes → as_line bytes ≡ bytes ∷ []
@@ -169,6 +192,9 @@ last_gives None kept old new before after held at fills none some ended = (
       subst (AreLines input)
       (ap (λ part. lines ++ as_line part) (none here.part here.is_kept) ∙ append-nil lines)
       (at_end input lines kept before after held here fills),
+  λ open' input lines has.
+      let here = at input lines has in
+      subst (EndsIn input lines) (none here.part here.is_kept) (ends_in input lines kept before after held here fills),
 )
 last_gives (Some line) kept old new before after held at fills none some ended = λ input lines has.
     let here = at input lines has in
@@ -179,6 +205,7 @@ last_gives (Some line) kept old new before after held at fills none some ended =
       has_lines = rw ended (subst (AreLines input)
           (ap (λ more. lines ++ more) (as_one_line here.part is.1))
           (at_end input lines kept before after held here fills));
+      unended = λ _. ends_in input lines kept before after held here fills;
     }
 
 -- a read failed

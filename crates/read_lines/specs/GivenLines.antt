@@ -28,6 +28,13 @@ pub record AreLines (input : Source) (lines : List (List ℕ)) : Type 0 where
   pub is_given : IsWholeInput input bytes
   pub are_lines : all_lines bytes ≡ lines
 
+-- A source gave these lines, each with its LF, then these bytes without one, and then its end.
+pub record EndsIn (input : Source) (lines : List (List ℕ)) (rest : List ℕ) : Type 0 where
+  pub bytes : List ℕ
+  pub is_given : IsWholeInput input bytes
+  pub are_ended : ended_lines bytes ≡ lines
+  pub is_rest : unended_line bytes ≡ rest
+
 -- A source that isn't at its end gave these lines, each with its LF, and then the bytes of a line that goes on. Whether
 -- a read of it fails is known as before.
 pub record HasPart (input : Source) (lines : List (List ℕ)) (part : List ℕ) (left : Source) (held : List ℕ) : Type 0
@@ -47,18 +54,21 @@ HasLinesBy true input lines left held = AreLines input lines
 abbrev pub HasLines : (input : Source) → List (List ℕ) → State → Type 0
 HasLines input lines state = HasLinesBy state.ended input lines state.left state.held
 
--- the lines that a source gave so far, and then this one
+-- the lines that a source gave so far, and then this one, which has no LF if it comes with the end
 pub record HasNext (input : Source) (lines : List (List ℕ)) (line : Line) (state : State) : Type 0 where
   pub bytes : List ℕ
   pub is_line : IsLine line bytes
   pub has_lines : HasLines input (lines ++ bytes ∷ []) state
+  pub unended : state.ended ≡ true → EndsIn input lines bytes
 
--- From any lines that a source may have given so far, it gives the next one; or they were all, and it is at its end.
+-- From any lines that a source may have given so far, it gives the next one; or they were all, and it is at its end. If
+-- it wasn't there before, each has its LF.
 abbrev pub Gives : Option Line → (old new : State) → Type 0
 Gives (Some line) old new =
     (input : Source) (lines : List (List ℕ)) → HasLines input lines old → HasNext input lines line new
 Gives None old new =
     (new.ended ≡ true) × ((input : Source) (lines : List (List ℕ)) → HasLines input lines old → AreLines input lines)
+    × (old.ended ≡ false → (input : Source) (lines : List (List ℕ)) → HasLines input lines old → EndsIn input lines [])
 
 -- A read failed of a source that gave these lines. If one is known to fail, they are all that have an LF.
 abbrev pub BreaksOff : (input : Source) → List (List ℕ) → Type 0

@@ -45,6 +45,13 @@ impl<R: ByteSource + Drop> Lines<R> {
         })
     }
 
+    /// Whether the source gave its end. The line that was given last, if it has come with it, has no LF.
+    pub fn has_ended(&self) -> bool
+        ensures { result ≡ self.now.ended }
+    {
+        self.ended
+    }
+
     /// The next line, or none if all lines were given. What stands after the last LF is a line if it isn't empty. The
     /// source isn't asked again after its end.
     ///
