@@ -36,7 +36,7 @@ judge_lacks rows none (TestRuns options wishes format runs) names =
     differ (codes "test") (codes "judge") refl names.0
 judge_lacks rows none (InferDocument streams) names =
     differ (codes "infer") (codes "judge") refl names.0
-judge_lacks rows none (JudgeLines options fail_on) names =
+judge_lacks rows none (JudgeLines options fail_on in_bundles) names =
     differ (codes "batch") (codes "judge") refl names.0
 judge_lacks rows none (BundleRuns runs) names =
     differ (codes "bundle") (codes "judge") refl names.0
@@ -65,7 +65,7 @@ check_lacks rows none (TestRuns options wishes format runs) names =
     differ (codes "test") (codes "check") refl names.0
 check_lacks rows none (InferDocument streams) names =
     differ (codes "infer") (codes "check") refl names.0
-check_lacks rows none (JudgeLines options fail_on) names =
+check_lacks rows none (JudgeLines options fail_on in_bundles) names =
     differ (codes "batch") (codes "check") refl names.0
 check_lacks rows none (BundleRuns runs) names =
     differ (codes "bundle") (codes "check") refl names.0
@@ -93,7 +93,7 @@ draw_lacks rows none (TestRuns options wishes format runs) names =
     differ (codes "test") (codes "draw") refl names.0
 draw_lacks rows none (InferDocument streams) names =
     differ (codes "infer") (codes "draw") refl names.0
-draw_lacks rows none (JudgeLines options fail_on) names =
+draw_lacks rows none (JudgeLines options fail_on in_bundles) names =
     differ (codes "batch") (codes "draw") refl names.0
 draw_lacks rows none (BundleRuns runs) names =
     differ (codes "bundle") (codes "draw") refl names.0
@@ -123,7 +123,7 @@ serve_lacks rows none (TestRuns options wishes format runs) names =
     differ (codes "test") (codes "serve") refl names.0
 serve_lacks rows none (InferDocument streams) names =
     differ (codes "infer") (codes "serve") refl names.0
-serve_lacks rows none (JudgeLines options fail_on) names =
+serve_lacks rows none (JudgeLines options fail_on in_bundles) names =
     differ (codes "batch") (codes "serve") refl names.0
 serve_lacks rows none (BundleRuns runs) names =
     differ (codes "bundle") (codes "serve") refl names.0
@@ -152,7 +152,7 @@ explore_lacks rows none (TestRuns options wishes format runs) names =
     differ (codes "test") (codes "explore") refl names.0
 explore_lacks rows none (InferDocument streams) names =
     differ (codes "infer") (codes "explore") refl names.0
-explore_lacks rows none (JudgeLines options fail_on) names =
+explore_lacks rows none (JudgeLines options fail_on in_bundles) names =
     differ (codes "batch") (codes "explore") refl names.0
 explore_lacks rows none (BundleRuns runs) names =
     differ (codes "bundle") (codes "explore") refl names.0
@@ -180,7 +180,7 @@ test_lacks rows none (TestRuns options wishes format runs) names =
     none options wishes format runs names.1
 test_lacks rows none (InferDocument streams) names =
     differ (codes "infer") (codes "test") refl names.0
-test_lacks rows none (JudgeLines options fail_on) names =
+test_lacks rows none (JudgeLines options fail_on in_bundles) names =
     differ (codes "batch") (codes "test") refl names.0
 test_lacks rows none (BundleRuns runs) names =
     differ (codes "bundle") (codes "test") refl names.0
@@ -205,7 +205,7 @@ infer_lacks rows none (ExploreFiles options fail_on page document streams) names
 infer_lacks rows none (TestRuns options wishes format runs) names =
     differ (codes "test") (codes "infer") refl names.0
 infer_lacks rows none (InferDocument streams) names = none streams names.1
-infer_lacks rows none (JudgeLines options fail_on) names =
+infer_lacks rows none (JudgeLines options fail_on in_bundles) names =
     differ (codes "batch") (codes "infer") refl names.0
 infer_lacks rows none (BundleRuns runs) names =
     differ (codes "bundle") (codes "infer") refl names.0
@@ -232,7 +232,8 @@ batch_lacks rows none (TestRuns options wishes format runs) names =
     differ (codes "test") (codes "batch") refl names.0
 batch_lacks rows none (InferDocument streams) names =
     differ (codes "infer") (codes "batch") refl names.0
-batch_lacks rows none (JudgeLines options fail_on) names = none options fail_on (names.1, names.2)
+batch_lacks rows none (JudgeLines options fail_on in_bundles) names =
+    none options fail_on (names.1, names.2)
 batch_lacks rows none (BundleRuns runs) names =
     differ (codes "bundle") (codes "batch") refl names.0
 batch_lacks rows none MergeLines names = differ (codes "merge") (codes "batch") refl names
@@ -257,7 +258,7 @@ bundle_lacks rows none (TestRuns options wishes format runs) names =
     differ (codes "test") (codes "bundle") refl names.0
 bundle_lacks rows none (InferDocument streams) names =
     differ (codes "infer") (codes "bundle") refl names.0
-bundle_lacks rows none (JudgeLines options fail_on) names =
+bundle_lacks rows none (JudgeLines options fail_on in_bundles) names =
     differ (codes "batch") (codes "bundle") refl names.0
 bundle_lacks rows none (BundleRuns runs) names = none runs names.1
 bundle_lacks rows none MergeLines names = differ (codes "merge") (codes "bundle") refl names
@@ -286,7 +287,7 @@ no_command command rows a b c d e f g h i j (TestRuns options wishes format runs
     f names.0
 no_command command rows a b c d e f g h i j (InferDocument streams) names =
     g names.0
-no_command command rows a b c d e f g h i j (JudgeLines options fail_on) names =
+no_command command rows a b c d e f g h i j (JudgeLines options fail_on in_bundles) names =
     h names.0
 no_command command rows a b c d e f g h i j (BundleRuns runs) names =
     i names.0

@@ -177,8 +177,9 @@ NamesBy command rows (ExploreFiles options fail_on page document streams) =
 NamesBy command rows (TestRuns options wishes format runs) =
     (command ≡ codes "test") × NamesTest rows runs options wishes format
 NamesBy command rows (InferDocument streams) = (command ≡ codes "infer") × (all_of (codes "STREAM") rows ≡ Some streams)
-NamesBy command rows (JudgeLines options fail_on) =
+NamesBy command rows (JudgeLines options fail_on in_bundles) =
     (command ≡ codes "batch") × NamesJudging rows options fail_on × HasJobs rows
+    × SaysFlag rows (codes "BUNDLES") in_bundles
 NamesBy command rows (BundleRuns runs) = (command ≡ codes "bundle") × (all_of (codes "RUN") rows ≡ Some runs)
 NamesBy command rows MergeLines = command ≡ codes "merge"
 NamesBy command rows _ = ⊥

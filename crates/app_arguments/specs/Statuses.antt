@@ -49,9 +49,9 @@ pub data Request : Type 0 where
   TestRuns : (options : Options) (wishes : List Condition) (format : Format) (runs : List (List ℕ)) → Request
   -- to write the first session document of streams of events, each in a file of this name
   InferDocument : (streams : List (List ℕ)) → Request
-  -- to judge the sessions in the lines of the input, with what is asked beside their documents, and to fail on these
-  -- answers
-  JudgeLines : (options : Options) (fail_on : List Condition) → Request
+  -- to judge the sessions in the lines of the input, or in its bundles, with what is asked beside their documents, and
+  -- to fail on these answers
+  JudgeLines : (options : Options) (fail_on : List Condition) (in_bundles : Bool) → Request
   -- to write the sessions in the folders of these names, each as a line
   BundleRuns : (runs : List (List ℕ)) → Request
   -- to write the summary of the answers and the summaries in the lines of the input

@@ -152,7 +152,7 @@ abbrev pub infer_arguments : List Argument
 infer_arguments = streams ∷ explain ∷ []
 
 abbrev pub batch_arguments : List Argument
-batch_arguments = asking ++ judging ++ (jobs ∷ [])
+batch_arguments = asking ++ judging ++ (jobs ∷ option (codes "BUNDLES") (codes "bundles") kinds.Flag ∷ [])
 
 abbrev pub bundle_arguments : List Argument
 bundle_arguments = runs ∷ explain ∷ []

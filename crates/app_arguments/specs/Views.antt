@@ -90,7 +90,8 @@ request_view (Test test) =
     asked.TestRuns (options_view test.options) (wishes_view test.wishes.items) (format_view test.format)
     (names_view test.runs.items)
 request_view (Infer streams) = asked.InferDocument (names_view streams.items)
-request_view (Batch batch) = asked.JudgeLines (options_view batch.options) (fail_on_view batch.fail_on)
+request_view (Batch batch) =
+    asked.JudgeLines (options_view batch.options) (fail_on_view batch.fail_on) batch.in_bundles
 request_view (BundleRuns runs) = asked.BundleRuns (names_view runs.items)
 request_view Merge = asked.MergeLines
 

@@ -613,6 +613,7 @@ fn batch_request<'a>(
         fail_on,
         workers,
         jobs,
+        in_bundles: flag_of(matches, "BUNDLES"),
     })))
 }
 

@@ -223,7 +223,7 @@ crates/monitor/out/monitor infer examples/ten-lines/left.stream examples/ten-lin
 
 /// What the help says of `batch`.
 pub(crate) const BATCH_ABOUT: &str =
-    "Judges sessions that come one in a line, and writes a line of each";
+    "Judges sessions that come one in a line, or in bundles, and writes a line of each";
 
 /// What the help of `batch` ends with.
 pub(crate) const BATCH_AFTER: &str =
@@ -234,6 +234,9 @@ end with, and the `report` that `judge --format json` would write; or, of a line
 number, and `error`, which says why. No line stops the others. The status is 5 if the status of one is 5, or else 1 if \
 one is refused or is no session, 2 if the arguments are refused, 3 if the input can't be read or the output can't be \
 written, and 4 if memory runs out.\n\n\
+With --bundles the standard input holds bundles in place of lines, with a line === between each two: each is a session \
+document and its streams, with a line --- before each stream. `id` is then the bundle's number, counted from 1, and so \
+is `line`.\n\n\
 With --jobs N sessions are judged side by side: the lines are the same, in the same order.\n\n\
 With --width, --ask, --beyond-width and --fail-on each session is judged as by `judge`.\n\n\
 With --max-time SECONDS the status is 6 if the run takes longer, and nothing is written to the standard output but the \

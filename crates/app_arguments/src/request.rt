@@ -118,7 +118,7 @@ pub struct Test<'a> {
     pub junit: Option<&'a str>,
 }
 
-/// What a judgement of sessions in lines is asked for.
+/// What a judgement of sessions in lines, or in bundles, is asked for.
 #[derive(Drop)]
 pub struct Batch<'a> {
     /// What is asked beside each document.
@@ -129,6 +129,8 @@ pub struct Batch<'a> {
     pub workers: Workers,
     /// How many sessions are judged side by side.
     pub jobs: Workers,
+    /// Whether the sessions come in bundles, and not in lines.
+    pub in_bundles: bool,
 }
 
 /// What the program is asked for.
@@ -152,7 +154,7 @@ pub enum Request<'a> {
     Test(Test<'a>),
     /// To write the first session document of the streams in the files of these names.
     Infer(Vec<&'a str>),
-    /// To judge the sessions in the lines of the input.
+    /// To judge the sessions in the lines of the input, or in its bundles.
     Batch(Batch<'a>),
     /// To write the recorded runs in the folders of these names as sessions in lines.
     BundleRuns(Vec<&'a str>),

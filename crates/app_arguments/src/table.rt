@@ -559,6 +559,18 @@ fn jobs() -> Row
     )
 }
 
+/// Whether the input holds bundles.
+fn bundles() -> Row
+    ensures { row_view result ≡ option (codes "BUNDLES") (codes "bundles") kinds.Flag }
+{
+    option(
+        "BUNDLES",
+        "bundles",
+        ArgumentKind::Flag,
+        "Read bundles with a line === between each two, in place of lines; the id of each is its number",
+    )
+}
+
 /// The folder for pages of runs that fail.
 fn pages() -> Row
     ensures { row_view result ≡ option (codes "FOLDER") (codes "pages") kinds.Text }
@@ -738,7 +750,7 @@ pub(crate) fn infer_arguments() -> [Row; 2]
 }
 
 /// What `batch` takes, in the order of its help.
-pub(crate) fn batch_arguments() -> [Row; 7]
+pub(crate) fn batch_arguments() -> [Row; 8]
     ensures { map row_view result ≡ batch_arguments }
 {
     [
@@ -749,6 +761,7 @@ pub(crate) fn batch_arguments() -> [Row; 7]
         beyond_width(),
         fail_on(),
         jobs(),
+        bundles(),
     ]
 }
 

@@ -1,18 +1,20 @@
 -- What a round has so far.
-use Rattle.std.proofs.Common.{◌≡◌, ℕ, suc, ◌+◌, ◌<◌, ◌≤◌, List, [], ◌∷◌, ◌++◌, length, take, get_or, Ok, refl, sym, ap, subst, ◌∙◌, append-nil, append_assoc, arith}
-use Rattle.std.specs.Prelude.{Result, Some}
+use Rattle.std.proofs.Common.{◌≡◌, ℕ, suc, ◌+◌, ◌<◌, ◌≤◌, Bool, false, true, true≢false, List, [], ◌∷◌, ◌++◌, length, take, get_or, Ok, refl, sym, ap, subst, ◌∙◌, append-nil, append_assoc, arith}
+use Rattle.std.specs.Prelude.{None, Result, Some}
 use Rattle.std.specs.List.{AllZip}
 use Rattle.std.proofs.Math.Seq.{take-suc}
 use Rattle.def_judgement.specs.Writes.{Source}
 use Rattle.judge_session.specs.declared.fault.EngineFault.{EngineFault}
 use Rattle.app_batch.specs.Answers.{Answer}
 use Rattle.app_batch.specs.Batches.{text_of_answers}
+use Rattle.app_batch.specs.Entries.{GivesEntry, HasEntries, IsEntry}
 use Rattle.app_batch.specs.Rounds.{IsFoundIn, IsMade, IsRound}
 use Rattle.app_batch.specs.Views.{answer_view}
 use Rattle.app_batch.specs.declared.answer.Answer as made
 use Rattle.app_batch.specs.declared.found.Found.{Found}
 use Rattle.app_batch.proofs.Progress.{text_on}
-use Rattle.read_lines.specs.GivenLines.{Gives, HasLines, IsLine, State}
+use Rattle.read_items.specs.GivenItems.{AreItems, HasItemsBy}
+use Rattle.read_lines.specs.GivenLines.{AreLines, HasLinesBy, State}
 use Rattle.read_lines.specs.declared.line.Line.{Line}
 
 zip_on : {A B : Type 0} (P : A → B → Type 0) (xs : List A) (ys : List B) (x : A) (y : B) → AllZip P xs ys → P x y
@@ -67,40 +69,93 @@ more_text results i answer found all then text longer line lt result at is has s
       (finds (before ++ has.due) (answer_view answer) refl (has.is_found before is));
 }
 
--- ---- the lines of a round
+-- ---- the entries of a round
 
--- the lines of a round so far follow on those before
-pub record HasRound (round : List Line) (input : Source) (before : List (List ℕ)) (state : State) : Type 0 where
-  pub lines : List (List ℕ)
-  pub are_lines : AllZip IsLine round lines
-  pub has_lines : HasLines input (before ++ lines) state
+-- the entries of a round so far follow on those before
+pub record HasRound (in_bundles : Bool) (round : List Line) (input : Source) (before : List (List ℕ)) (state : State) :
+    Type 0 where
+  pub entries : List (List ℕ)
+  pub are_entries : AllZip (IsEntry in_bundles) round entries
+  pub has_entries : HasEntries in_bundles input (before ++ entries) state
 
-pub no_round : (input : Source) (before : List (List ℕ)) (state : State) → HasLines input before state
-    → HasRound [] input before state
-no_round input before state has = record {
-  lines = [];
-  are_lines = tt;
-  has_lines = subst (λ (l : List (List ℕ)). HasLines input l state) (sym (append-nil before)) has;
+pub no_round : (in_bundles : Bool) (input : Source) (before : List (List ℕ)) (state : State)
+    → HasEntries in_bundles input before state → HasRound in_bundles [] input before state
+no_round in_bundles input before state has = record {
+  entries = [];
+  are_entries = tt;
+  has_entries = subst (λ (l : List (List ℕ)). HasEntries in_bundles input l state) (sym (append-nil before)) has;
 }
 
-pub more_round : (round longer : List Line) (line : Line) (input : Source) (before : List (List ℕ)) (old new : State)
-    → longer ≡ round ++ line ∷ [] → HasRound round input before old → Gives (Some line) old new
-    → HasRound longer input before new
-more_round round longer line input before old new pushed has gives =
-    let next = gives input (before ++ has.lines) has.has_lines in
-    subst (λ (lines : List Line). HasRound lines input before new) (sym pushed) (record {
-      lines = has.lines ++ next.bytes ∷ [];
-      are_lines = zip_on IsLine round has.lines line next.bytes has.are_lines next.is_line;
-      has_lines = subst (λ (l : List (List ℕ)). HasLines input l new)
-          (append_assoc before has.lines (next.bytes ∷ [])) next.has_lines;
+-- the entries that a source gave so far, and then this one
+record HasNext (in_bundles : Bool) (input : Source) (given : List (List ℕ)) (line : Line) (state : State) :
+    Type 0 where
+  pub bytes : List ℕ
+  pub is_entry : IsEntry in_bundles line bytes
+  pub has_entries : HasEntries in_bundles input (given ++ bytes ∷ []) state
+
+next_by : (in_bundles : Bool) (input : Source) (given : List (List ℕ)) (line : Line) (old new : State)
+    → GivesEntry in_bundles (Some line) old new → HasEntries in_bundles input given old
+    → HasNext in_bundles input given line new
+next_by false input given line old new gives has =
+    let next = gives input given has in
+    record { bytes = next.bytes; is_entry = next.is_line; has_entries = next.has_lines }
+next_by true input given line old new gives has =
+    let next = gives input given has in
+    record { bytes = next.bytes; is_entry = next.is_item; has_entries = next.has_items }
+
+pub more_round : (in_bundles : Bool) (round longer : List Line) (line : Line) (input : Source)
+    (before : List (List ℕ)) (old new : State) → longer ≡ round ++ line ∷ []
+    → HasRound in_bundles round input before old → GivesEntry in_bundles (Some line) old new
+    → HasRound in_bundles longer input before new
+more_round in_bundles round longer line input before old new pushed has gives =
+    let next = next_by in_bundles input (before ++ has.entries) line old new gives has.has_entries in
+    subst (λ (lines : List Line). HasRound in_bundles lines input before new) (sym pushed) (record {
+      entries = has.entries ++ next.bytes ∷ [];
+      are_entries =
+          zip_on (IsEntry in_bundles) round has.entries line next.bytes has.are_entries next.is_entry;
+      has_entries = subst (λ (l : List (List ℕ)). HasEntries in_bundles input l new)
+          (append_assoc before has.entries (next.bytes ∷ [])) next.has_entries;
     })
 
--- a round that has a line
-pub some_round : (round : List Line) (input : Source) (before : List (List ℕ)) (state : State) → 1 ≤ length round
-    → HasRound round input before state → IsRound round input before state
-some_round round input before state some has = record {
-  lines = has.lines;
-  are_lines = has.are_lines;
-  has_lines = has.has_lines;
+-- a round that has an entry
+pub some_round : (in_bundles : Bool) (round : List Line) (input : Source) (before : List (List ℕ)) (state : State)
+    → 1 ≤ length round → HasRound in_bundles round input before state → IsRound in_bundles round input before state
+some_round in_bundles round input before state some has = record {
+  entries = has.entries;
+  are_entries = has.are_entries;
+  has_entries = has.has_entries;
   at_end = λ none. absurd (let empty : length round ≡ 0 = ap length none in omega (arith, empty, some));
+}
+
+ended_by : (in_bundles : Bool) (old new : State) → GivesEntry in_bundles None old new → new.ended ≡ true
+ended_by false old new gives = gives.0
+ended_by true old new gives = gives.0
+
+same_by : (in_bundles : Bool) (input : Source) (given : List (List ℕ)) (old new : State)
+    → GivesEntry in_bundles None old new → HasEntries in_bundles input given old
+    → HasEntries in_bundles input given new
+same_by false input given old new gives has = lines_at_end new.ended input given new.left new.held gives.0
+    (gives.1 input given has)
+  where
+    lines_at_end : (ended : Bool) (input : Source) (given : List (List ℕ)) (left : Source) (held : List ℕ)
+        → ended ≡ true → AreLines input given → HasLinesBy ended input given left held
+    lines_at_end false input given left held over are = absurd (true≢false (sym over))
+    lines_at_end true input given left held over are = are
+same_by true input given old new gives has = items_at_end new.ended input given new.left new.held gives.0
+    (gives.1 input given has)
+  where
+    items_at_end : (ended : Bool) (input : Source) (given : List (List ℕ)) (left : Source) (held : List ℕ)
+        → ended ≡ true → AreItems input given → HasItemsBy ended input given left held
+    items_at_end false input given left held over are = absurd (true≢false (sym over))
+    items_at_end true input given left held over are = are
+
+-- the last round, which may have no entry
+pub last_round : (in_bundles : Bool) (round : List Line) (input : Source) (before : List (List ℕ)) (old new : State)
+    → HasRound in_bundles round input before old → GivesEntry in_bundles None old new
+    → IsRound in_bundles round input before new
+last_round in_bundles round input before old new has gives = record {
+  entries = has.entries;
+  are_entries = has.are_entries;
+  has_entries = same_by in_bundles input (before ++ has.entries) old new gives has.has_entries;
+  at_end = λ _. ended_by in_bundles old new gives;
 }

@@ -1,14 +1,16 @@
-//! What is written of a session, and of a line.
+//! What is written of a session, and of an entry.
 ghost use Rattle.app_arguments.specs.ConditionViews.{conclusion_view, fail_on_view};
 ghost use Rattle.app_batch.specs.Answers.{IsAnswer, IsFailure, IsJudgedTo, IsSessionAnswer, status_for};
+ghost use Rattle.app_batch.specs.Entries.{IsEntry, entry_said};
 ghost use Rattle.app_batch.specs.Views.{answer_view};
 ghost use Rattle.def_format.specs.Documents.{IsDocument, inquiry_of};
 ghost use Rattle.def_format.specs.Limits.{worker_limit};
 ghost use Rattle.out_lines.specs.Lines.{answer_data, line_text};
 ghost use Rattle.pd_report.specs.Views.{report_view};
 ghost use Rattle.pd_spec.specs.Views.{IsFaultOf, document_view, options_view};
+ghost use Rattle.read_items.specs.GivenItems.{IsItem};
 ghost use Rattle.read_lines.specs.GivenLines.{IsLine};
-ghost use Rattle.read_sessions.specs.SessionLines.{session_line};
+ghost use Rattle.read_sessions.specs.SessionLines.{session_bundle, session_line};
 ghost use Rattle.read_sessions.specs.Views.{line_view, name_view, session_view};
 ghost use Rattle.app_arguments.specs.Statuses.{HasNamed};
 ghost use Rattle.std.specs.Prelude.{◌≡◌, ◌≤◌, [], ℕ, IfOk, IsOkUnless, List, map, option_map, string_bytes};
@@ -25,7 +27,7 @@ use pd_engine::Report;
 use pd_pred::Names;
 use pd_spec::{Spec, SpecFault};
 use read_lines::Line;
-use read_sessions::{Session, SessionLine, read_session_line};
+use read_sessions::{Session, SessionLine, long_bundle, read_session_bundle, read_session_line};
 use std::alloc::{AllocError, Global};
 use std::random::RandomSource;
 use std::sync::Wait;
@@ -199,10 +201,7 @@ fn said_answer<S: RandomSource + Threads + Wait + Sync>(
 }
 
 /// What is written of the line of this number.
-///
-/// # Errors
-/// `Memory`.
-pub(crate) fn line_answer<S: RandomSource + Threads + Wait + Sync>(
+fn line_answer<S: RandomSource + Threads + Wait + Sync>(
     rt: &S,
     alloc: Global,
     number: u64,
@@ -223,4 +222,55 @@ pub(crate) fn line_answer<S: RandomSource + Threads + Wait + Sync>(
         }
         Line::Long => Ok(failure(alloc, None, number, "over 134217728 bytes")?),
     }
+}
+
+/// What is written of the bundle of this number.
+fn bundle_answer<S: RandomSource + Threads + Wait + Sync>(
+    rt: &S,
+    alloc: Global,
+    number: u64,
+    item: &Line,
+    asked: &Asked<'_>,
+) -> Result<Answer, EngineFault>
+    requires some_workers { 1 ≤ asked.now.workers }
+    requires few_workers { asked.now.workers ≤ worker_limit }
+    ensures answer { IfOk result (λ answer. (bytes : List ℕ) → IsItem item.now bytes
+        → IsAnswer (options_view asked.now.options.now) (fail_on_view asked.now.fail_on.now) number
+        (session_bundle number bytes) (answer_view answer)) }
+    ensures err { IsOkUnless result EngineFault.Memory }
+{
+    match item {
+        Line::Whole(bytes) => {
+            let said = read_session_bundle(alloc, number, bytes)?;
+            said_answer(rt, alloc, number, &said, asked)
+        }
+        Line::Long => {
+            let said = long_bundle(alloc, number)?;
+            said_answer(rt, alloc, number, &said, asked)
+        }
+    }
+}
+
+/// What is written of the entry of this number.
+///
+/// # Errors
+/// `Memory`.
+pub(crate) fn entry_answer<S: RandomSource + Threads + Wait + Sync>(
+    rt: &S,
+    alloc: Global,
+    number: u64,
+    entry: &Line,
+    asked: &Asked<'_>,
+) -> Result<Answer, EngineFault>
+    requires some_workers { 1 ≤ asked.now.workers }
+    requires few_workers { asked.now.workers ≤ worker_limit }
+    ensures answer { IfOk result (λ answer. (bytes : List ℕ) → IsEntry asked.now.in_bundles entry.now bytes
+        → IsAnswer (options_view asked.now.options.now) (fail_on_view asked.now.fail_on.now) number
+        (entry_said asked.now.in_bundles number bytes) (answer_view answer)) }
+    ensures err { IsOkUnless result EngineFault.Memory }
+{
+    if asked.in_bundles {
+        return bundle_answer(rt, alloc, number, entry, asked);
+    }
+    line_answer(rt, alloc, number, entry, asked)
 }

@@ -1,4 +1,4 @@
-//! Answers the lines of an input, round by round.
+//! Answers the entries of an input, round by round.
 ghost use Rattle.app_arguments.specs.ConditionViews.{fail_on_view};
 ghost use Rattle.app_batch.specs.Batches.{BatchLeaves};
 ghost use Rattle.app_test.specs.Tests.{test_ending};
@@ -23,14 +23,14 @@ use std::random::RandomSource;
 use std::sync::Wait;
 use std::thread::Threads;
 
-/// How far a batch has come: how many lines are answered, and what is found in the answers.
+/// How far a batch has come: how many entries are answered, and what is found in the answers.
 #[derive(Clone, Copy)]
 struct Progress {
     number: u64,
     found: Found,
 }
 
-/// The number of lines with those of a round, if they can be counted.
+/// The number of entries with those of a round, if they can be counted.
 fn counted(number: u64, round: &[Line]) -> Result<u64, EngineFault>
     ensures all { IfOk result (λ all. (all ≡ number + length round.now) × (all + 1 < 2 ^ 64)) }
     ensures err { IsOkUnless result EngineFault.Memory }
@@ -46,11 +46,11 @@ fn counted(number: u64, round: &[Line]) -> Result<u64, EngineFault>
     }
 }
 
-/// Answers the lines of a round, and writes what is written of them. It gives how far the batch has come then.
+/// Answers the entries of a round, and writes what is written of them. It gives how far the batch has come then.
 ///
 /// # Errors
-/// `Memory` leaves nothing written. `Write` leaves a prefix of what is written of these lines, or all of it if only the
-/// flush failed.
+/// `Memory` leaves nothing written. `Write` leaves a prefix of what is written of these entries, or all of it if only
+/// the flush failed.
 fn write_round<S: RandomSource + Threads + Wait + Sync, O: Write>(
     rt: &S,
     alloc: Global,
@@ -64,11 +64,12 @@ fn write_round<S: RandomSource + Threads + Wait + Sync, O: Write>(
     requires some_workers { 1 ≤ asked.now.workers }
     requires few_workers { asked.now.workers ≤ worker_limit }
     ensures written { IfOk result (λ then. IsRoundWritten (options_view asked.now.options.now)
-        (fail_on_view asked.now.fail_on.now) progress.number progress.found round.now then.number then.found
+        (fail_on_view asked.now.fail_on.now) asked.now.in_bundles progress.number progress.found round.now then.number
+        then.found
         (O.contents output.old) (O.contents output.new)) }
     ensures left { OnErr result (Keeps (O.contents output.old) (O.contents output.new)
-        ⊎ IsRoundCut (options_view asked.now.options.now) (fail_on_view asked.now.fail_on.now) progress.number
-        round.now (O.contents output.old) (O.contents output.new)) }
+        ⊎ IsRoundCut (options_view asked.now.options.now) (fail_on_view asked.now.fail_on.now)
+        asked.now.in_bundles progress.number round.now (O.contents output.old) (O.contents output.new)) }
     ensures err { IfErr result (λ fault. (fault ≡ EngineFault.Memory) ⊎ (fault ≡ EngineFault.Write)) }
 {
     let number = counted(progress.number, round)?;
@@ -78,12 +79,12 @@ fn write_round<S: RandomSource + Threads + Wait + Sync, O: Write>(
     Ok(Progress { number, found })
 }
 
-/// Judges the sessions in the lines of an input, and writes a line of each, in their order. So many are judged side by
-/// side; with one job each line is answered, and the output flushed, before the next one is read. It gives what the
-/// lines come to together.
+/// Judges the sessions in the lines of an input, or in its bundles, and writes a line of each, in their order. So many
+/// are judged side by side; with one job each is answered, and the output flushed, before the next one is read. It
+/// gives what they come to together.
 ///
 /// # Errors
-/// `Read` if a read fails, `Memory`, and `Write`. What is written of the lines before is left, and after `Write` a part
+/// `Read` if a read fails, `Memory`, and `Write`. What is written of those before is left, and after `Write` a part
 /// of what comes next.
 pub fn batch_lines<S: RandomSource + Threads + Wait + Sync, R: ByteSource + Drop, O: Write>(
     rt: &S,
@@ -98,7 +99,7 @@ pub fn batch_lines<S: RandomSource + Threads + Wait + Sync, R: ByteSource + Drop
     requires some_workers { 1 ≤ asked.now.workers }
     requires few_workers { asked.now.workers ≤ worker_limit }
     ensures { BatchLeaves (R.left input) (options_view asked.now.options.now) (fail_on_view asked.now.fail_on.now)
-        (test_ending result) (O.contents output.old) (O.contents output.new) }
+        asked.now.in_bundles (test_ending result) (O.contents output.old) (O.contents output.new) }
 {
     let mut lines = Lines::new(alloc, input)?;
     let mut progress = Progress {
@@ -106,7 +107,7 @@ pub fn batch_lines<S: RandomSource + Threads + Wait + Sync, R: ByteSource + Drop
         found: Found::nothing(),
     };
     'rounds: for _ in 0..u64::MAX {
-        let round = read_round(alloc, &mut lines, jobs as usize)?;
+        let round = read_round(alloc, &mut lines, asked.in_bundles, jobs as usize)?;
         if round.len() == 0 {
             return Ok(progress.found.conclusion());
         }

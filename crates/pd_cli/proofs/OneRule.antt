@@ -560,7 +560,7 @@ module _ (input : Source) (files : List ℕ → File) (connections : Place → S
   ran (TestRuns options wishes format runs) = by_rule _ _ status old new errors_old errors_new
       (λ ending h. inr (test_left files options wishes format runs old new ending h))
   ran (InferDocument streams) = λ h. inr h
-  ran (JudgeLines options fail_on) = by_rule _ _ status old new errors_old errors_new (λ ending h. inr h)
+  ran (JudgeLines options fail_on in_bundles) = by_rule _ _ status old new errors_old errors_new (λ ending h. inr h)
   ran (BundleRuns runs) = by_rule _ _ status old new errors_old errors_new (λ ending h. inr h)
   ran MergeLines = λ h. inr h
   ran ShowHelp = by_rule _ _ status old new errors_old errors_new (help_left old new)

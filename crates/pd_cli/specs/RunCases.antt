@@ -44,7 +44,8 @@ Leaves input files connections network_serves (ExploreFiles options fail_on page
 Leaves input files connections network_serves (TestRuns options wishes format runs) =
     By (TestLeaves files options wishes format runs)
 Leaves input files connections network_serves (InferDocument streams) = EndsInferred files streams
-Leaves input files connections network_serves (JudgeLines options fail_on) = By (BatchLeaves input options fail_on)
+Leaves input files connections network_serves (JudgeLines options fail_on in_bundles) =
+    By (BatchLeaves input options fail_on in_bundles)
 Leaves input files connections network_serves (BundleRuns runs) = By (BundleLeaves files runs)
 Leaves input files connections network_serves MergeLines = EndsMerged input
 Leaves input files connections network_serves ShowHelp = By HelpLeaves

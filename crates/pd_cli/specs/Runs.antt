@@ -153,7 +153,8 @@ Leaves input files connections network_serves (ExploreFiles options fail_on page
 Leaves input files connections network_serves (TestRuns options wishes format runs) =
     By (λ ending. LeavesText (IsTestAt files options wishes format runs ending) ending)
 Leaves input files connections network_serves (InferDocument streams) = EndsInferred files streams
-Leaves input files connections network_serves (JudgeLines options fail_on) = By (BatchLeaves input options fail_on)
+Leaves input files connections network_serves (JudgeLines options fail_on in_bundles) =
+    By (BatchLeaves input options fail_on in_bundles)
 Leaves input files connections network_serves (BundleRuns runs) = By (BundleLeaves files runs)
 Leaves input files connections network_serves MergeLines = EndsMerged input
 Leaves input files connections network_serves ShowHelp = By (λ ending old new. EndsBy Success ending)

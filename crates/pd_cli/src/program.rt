@@ -249,7 +249,7 @@ fn run_infer<Y: System, O: Write, E: Write>(
     report_infer(&end, errors)
 }
 
-/// Judges the sessions in the lines of the input, and gives the exit status.
+/// Judges the sessions in the lines of the input, or in its bundles, and gives the exit status.
 fn run_batch<Y: System, I: ByteSource + Drop, O: Write, E: Write>(
     world: &World<'_, Y>,
     input: I,
@@ -259,13 +259,14 @@ fn run_batch<Y: System, I: ByteSource + Drop, O: Write, E: Write>(
 ) -> u8
     requires { I.has_ended input ≡ false }
     ensures { Explained world.now.explain (λ start. Ends (λ ending. BatchLeaves (I.left input)
-        (options_view batch.now.options) (fail_on_view batch.now.fail_on) ending (O.contents output.old)
-        (O.contents output.new)) result start (E.contents errors.new)) (E.contents errors.old) }
+        (options_view batch.now.options) (fail_on_view batch.now.fail_on) batch.now.in_bundles ending
+        (O.contents output.old) (O.contents output.new)) result start (E.contents errors.new)) (E.contents errors.old) }
 {
     let asked = Asked {
         options: &batch.options,
         fail_on: &batch.fail_on,
         workers: batch.workers.count(),
+        in_bundles: batch.in_bundles,
     };
     let jobs = batch.jobs.count();
     let end = batch_lines(world.rt, world.alloc, input, &asked, jobs, output);

@@ -9,7 +9,8 @@ pub returns-in_err-write_flushed-clause-left : goal.returns-in_err-write_flushed
 returns-in_err-write_flushed-clause-left g c =
     on_err c.from_residual-in_err-write_flushed.result
     (inr (round_cut (options_view c.args.asked.now.options.now) (fail_on_view c.args.asked.now.fail_on.now)
-    c.args.progress.number c.args.progress.found c.args.round.now c.in_ok-results.results.items c.deref.result.now
+    c.args.asked.now.in_bundles c.args.progress.number c.args.progress.found c.args.round.now
+    c.in_ok-results.results.items c.deref.result.now
     c.in_ok-text.text.items c.deref-2.result.now c.in_ok-text.found c.in_ok-results.ensures c.deref.ensures.value
     c.in_ok-text.ensures.text c.deref-2.ensures.value (g.O.Write.contents c.args.output.now)
     (g.O.Write.contents c.write_flushed.new.output) c.in_err-write_flushed.ensures.part))
@@ -17,7 +18,8 @@ returns-in_err-write_flushed-clause-left g c =
 pub returns-clause-written : goal.returns-clause-written
 returns-clause-written g c =
     round_written (options_view c.args.asked.now.options.now) (fail_on_view c.args.asked.now.fail_on.now)
-    c.args.progress.number c.args.progress.found c.args.round.now c.in_ok-results.results.items c.deref.result.now
+    c.args.asked.now.in_bundles c.args.progress.number c.args.progress.found c.args.round.now
+    c.in_ok-results.results.items c.deref.result.now
     c.in_ok-text.text.items c.deref-2.result.now c.in_ok-text.found c.in_ok-results.ensures c.deref.ensures.value
     c.in_ok-text.ensures.text c.deref-2.ensures.value (g.O.Write.contents c.args.output.now)
     (g.O.Write.contents c.write_flushed.new.output) c.in_ok-number.number c.in_ok-number.ensures.all.0
