@@ -3,6 +3,8 @@
 
     python3 monitor_lines.py BUNDLE.. | monitor batch      # or the bundles on the standard input
 
+Those on the standard input `monitor batch --bundles` reads by itself, with the same answers.
+
 A bundle has a session document, and before each stream a line ---. A file may hold several, divided by lines ===. Each
 is a line, in their order: a JSON object with the `document`, the `streams` and the `id`, which is the file's name, and
 if there are several in it, a colon and the bundle's number from 1 after it; on the standard input it is the number. Of
@@ -37,14 +39,15 @@ def session(bundle, name):
 
 
 def sessions(file, name):
-    """The objects of the bundles in a file. After a last line === no bundle begins."""
+    """The objects of the bundles in a file. After a last line === no bundle begins. An empty file is a bundle, since it is
+    named, and an empty standard input holds none."""
     bundles = split_lines(file, DIVIDERS)
     bundle, number = next(bundles), 0
     for number, later in enumerate(bundles, 1):
         yield session(bundle, f"{name}:{number}" if name else str(number))
         bundle = later
-    if number == 0:
-        yield session(bundle, name or "1")
+    if number == 0 and name:
+        yield session(bundle, name)
     elif bundle:
         yield session(bundle, f"{name}:{number + 1}" if name else str(number + 1))
 

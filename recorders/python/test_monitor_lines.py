@@ -43,6 +43,11 @@ class Lines(unittest.TestCase):
         self.assertEqual(lines[1], {"document": "", "id": "2", "streams": []})
         self.assertEqual(([it["id"] for it in lines], status), (["1", "2", "3"], 0))
 
+    def test_an_empty_input_holds_no_bundle_and_an_empty_file_is_one(self):
+        self.assertEqual(said(), ([], 0))
+        self.assertEqual(said(b"===\n")[0], [{"document": "", "id": "1", "streams": []}])
+        self.assertEqual(said(b"", ("run.bundle", b""))[0], [{"document": "", "id": "run.bundle", "streams": []}])
+
     def test_only_a_whole_line_divides(self):
         text = b'{"name":"==="}\n====\n--\n---x\n'
         self.assertEqual(said(text)[0], [{"document": text.decode(), "id": "1", "streams": []}])
