@@ -5,7 +5,8 @@ It has to be one line, in the one form that docs/SPECIFICATION.md gives it, with
 and with the same status; and its other fields have to make that text again: the cut by its processes, the path by its
 runs, the refusal. What stands in `at` beside a cut has to be what the streams have: the lines of the last events in it,
 and the values there of the variables that the predicate names. Then all sessions in UTF-8 are judged by one `batch` for
-each of these ways, which has to give each of them the same object, without `at`, and the same status.
+each of these ways, which has to give each of them the same object, without `at`, and the same status; and all sessions
+by one `batch --bundles`, which has to write what `batch` does of the lines that monitor_lines.py makes of the bundles.
 
 With --schema it is looked instead whether docs/report.schema.json takes each line, of a path its first 50 runs, and
 refuses faults that are put into short ones. That needs the module jsonschema, Debian's python3-jsonschema, which is
@@ -30,6 +31,7 @@ sys.dont_write_bytecode = True
 from run import HERE, Differs, Place, cases_of, data, differ  # noqa: E402
 
 TOP = os.path.join(HERE, "..")
+LINES = os.path.join(TOP, "recorders", "python", "monitor_lines.py")
 WAYS = ([], ["--beyond-width", "--width", "1", "--fail-on", "unknown"])
 # Of a path so many runs are looked at by the schema, and faults are put into lines of so few bytes.
 RUNS, FAULTY = 50, 600
@@ -266,6 +268,28 @@ def judged_by_batch(program, all_sessions):
     return len(held_lines), wrong
 
 
+def bundles_of(all_sessions):
+    """The sessions as bundles with lines === between them, also those that aren't in UTF-8."""
+    wholes = [[part if part.endswith(b"\n") else part + b"\n" for part in map(data, (session[1], *session[2]))]
+              for session in all_sessions]
+    return b"===\n".join(b"---\n".join(parts) for parts in wholes)
+
+
+def judged_in_bundles(program, all_sessions):
+    """What `batch` writes of bundles otherwise than of the lines that monitor_lines.py makes of them."""
+    text, wrong = bundles_of(all_sessions), []
+    for end in (b"", b"===\n", b"===\r\n{}", b"===\n===", b"\n\xff"):
+        lines = subprocess.run([sys.executable, LINES], input=text + end, capture_output=True, check=False).stdout
+        for words in ([], ["--jobs", "4", "--beyond-width"]):
+            of_lines, of_bundles = (
+                subprocess.run([program, "batch", *words, *more], input=given, capture_output=True, check=False)
+                for more, given in (([], lines), (["--bundles"], text + end)))
+            ends = [(it.returncode, it.stdout, it.stderr) for it in (of_lines, of_bundles)]
+            if ends[0] != ends[1] or not ends[0][1]:
+                wrong.append(f"batch --bundles {' '.join(words)}: {ends[1][1][:300]}, and wanted is {ends[0][1][:300]}")
+    return wrong
+
+
 def main():
     parser = argparse.ArgumentParser(description=__doc__, formatter_class=argparse.RawDescriptionHelpFormatter)
     parser.add_argument("program", nargs="?", default=os.path.join(TOP, "crates", "monitor", "out", "monitor"))
@@ -284,7 +308,7 @@ def main():
     by_batch = ""
     if not given.schema:
         count, faults = judged_by_batch(program, all_sessions)
-        by_batch, wrong = f", {count} of them by batch too", wrong + faults
+        by_batch, wrong = f", {count} of them by batch too", wrong + faults + judged_in_bundles(program, all_sessions)
     for fault in wrong:
         print(f"reports as JSON: {fault}")
     print(f"reports as JSON: {len(all_sessions)} sessions, each in {len(WAYS)} ways{by_batch}, {len(wrong)} wrong")
