@@ -12,6 +12,7 @@ crates/monitor/out/monitor if it isn't given. The targets, each for N seconds on
     explore    the document and the streams: a page whose scripts are the page's own
     draw       the same and a report: a picture that is XML, or what stands against it
     batch      sessions in lines: a line of each, the one that `judge` would write, or why it is no session
+    bundles    sessions in bundles: what `batch` writes of the lines that monitor_lines.py makes of them
     merge      answers and summaries: the same summary however they are shared, or the first line that is neither
     importers  the importers, monitor_mend, monitor_infer and monitor_reduce: a session or a named refusal, and no
                other exception

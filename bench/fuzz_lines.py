@@ -1,12 +1,18 @@
-"""The targets of bench/fuzz.py that come in lines: sessions that `batch` reads, and answers and summaries that `merge`
-does. Of both it is known what may come of undamaged ones; of damaged ones, how what comes agrees with itself."""
+"""The targets of bench/fuzz.py that come in lines: sessions that `batch` reads, also in bundles, and answers and
+summaries that `merge` does. Of both it is known what may come of undamaged ones; of damaged ones, how what comes agrees with itself."""
 import collections
+import io
 import json
+import os
 import re
 import subprocess
+import sys
 
 import fuzz_inputs
 from fuzz_program import SECONDS, Target, is_report
+
+sys.path.insert(0, os.path.join(fuzz_inputs.ROOT, "recorders", "python"))
+import monitor_lines  # noqa: E402
 
 # Options that `judge` has as well, and those that `batch` has alone.
 OPTIONS = [[], ["--beyond-width"], ["--fail-on", "possibly,unknown"], ["--width", "2", "--fail-on", "definitely-no"],
@@ -176,6 +182,29 @@ class Batch(Target):
         return True
 
 
+class Bundles(Batch):
+    """Some bundles, damaged ones too: what is written of them is what of the lines that monitor_lines.py makes."""
+    name = "bundles"
+
+    def made(self, damage, session):
+        rng = damage.rng
+        bundles = [self.bundle(damage, rng.choice(self.sessions)) for _ in range(rng.choice([1, 2, 3, 6]))]
+        text = rng.choice([b"===\n", b"===\n", b"===\r\n", b"===\n===\n"]).join(bundles)
+        text += rng.choice([b"", b"", b"===", b"===\n", b"\n===\r", b"===\r\n\n"])
+        options = rng.choice(OPTIONS)
+        return self.by(["batch", "--bundles", *options, *rng.choice(JOBS)],
+                       text if rng.random() < 0.8 else damage.some(text), {}, options)
+
+    def bundle(self, damage, session):
+        parts = [session.document, *session.streams]
+        whole = b"---\n".join(part if part.endswith(b"\n") else part + b"\n" for part in parts)
+        return damage.some(whole) if damage.rng.randrange(4) == 0 else whole
+
+    def is_right(self, trial, status, output, errors):
+        lines = [as_line(made) for made in monitor_lines.sessions(io.BytesIO(trial.given or b""), "")]
+        return super().is_right(trial._replace(given=b"".join(lines)), status, output, errors)
+
+
 def summary_of(values):
     """The summary of answers and of summaries with these values."""
     counts, failing = collections.Counter(), collections.Counter()
@@ -263,4 +292,4 @@ class Merge(Target):
         return bool(self.merge(*lines[:count - 1])[1]) and is_alone == found[2].startswith(b"is no")
 
 
-TARGETS = {target.name: target for target in (Batch, Merge)}
+TARGETS = {target.name: target for target in (Batch, Bundles, Merge)}

@@ -1,7 +1,7 @@
 """The runs of refuse_each.py that write line by line: `batch`, `bundle`, `merge` and `test`, and how they may end.
 
 A batch has three lines: a session, junk, and a session on which it is to fail; a job of its own judges each, or two
-judge them. Two folders are bundled, of which the second has no document. What such a batch writes is merged with its
+judge them. One of bundles has the same three. Two folders are bundled, of which the second has no document. What such a batch writes is merged with its
 own summary. Three runs are tested, two side by side, and each has a page; and once more with files of results.
 
 If memory is refused, the status is 4, with `monitor: memory`, and whole lines are left, the first ones; `merge` leaves
@@ -35,12 +35,23 @@ def contents(path):
         return opened.read()
 
 
-def session_line(name, path):
-    """The session in a folder as a line, by the order of the names of its files."""
+def session_parts(path):
+    """The document of the session in a folder, and its streams, by the order of the names of its files."""
     files = [os.path.join(path, file) for file in sorted(os.listdir(path)) if file.endswith(".stream")]
-    streams = [contents(file).decode() for file in files]
-    document = contents(os.path.join(path, "session.json")).decode()
-    return json.dumps({"id": name, "document": document, "streams": streams}).encode() + b"\n"
+    return contents(os.path.join(path, "session.json")), [contents(file) for file in files]
+
+
+def session_line(name, path):
+    """The session in a folder as a line."""
+    document, streams = session_parts(path)
+    made = {"id": name, "document": document.decode(), "streams": [stream.decode() for stream in streams]}
+    return json.dumps(made).encode() + b"\n"
+
+
+def bundle_of(path):
+    """The session in a folder as a bundle."""
+    document, streams = session_parts(path)
+    return b"---\n".join([document, *streams])
 
 
 def output_of(words, given):
@@ -67,12 +78,14 @@ def runs_of(program, folder, inputs, run):
     paths = [inputs[name] for name in names]
     first, last = (session_line(name, path) for name, path in zip(names, paths))
     batch, three = [program, "batch", "--fail-on", "possibly"], first + b'{"document"\n' + last
+    bundles = b"===\n".join([bundle_of(paths[0]), b"\xff\n", bundle_of(paths[1])])
     answers = output_of(batch, three)
     lines = answers + output_of([program, "merge"], answers) + answers
     pages = ["--jobs", "2", "--pages", os.path.join(folder, "pages")]
     results = [word for name in ("json", "junit") for word in (f"--{name}", os.path.join(folder, "results", name))]
     os.mkdir(os.path.join(folder, "results"))
     return [("batch", run, batch, three), ("batch by two jobs", run, [*batch, "--jobs", "2"], three),
+            ("batch of bundles", run, [*batch, "--bundles"], bundles),
             ("bundle", run, [program, "bundle", paths[0], empty], b""), ("merge", run, [program, "merge"], lines),
             ("test", run, [program, "test", paths[0], empty, paths[1]], b""),
             ("test with pages", run_with_files, [program, "test", *pages, *paths, paths[0]], b""),
