@@ -105,7 +105,7 @@ _monitor() {
     explore) options='--explain --max-time --width --ask --workers --beyond-width --fail-on --never --always --sometimes --notes --link -h --help' ;;
     test) options='--explain --max-time --width --ask --workers --never --always --sometimes --jobs --pages --format --json --junit -h --help' ;;
     infer) options='--explain --max-time -h --help' ;;
-    batch) options='--explain --max-time --width --ask --workers --beyond-width --fail-on --jobs -h --help' ;;
+    batch) options='--explain --max-time --width --ask --workers --beyond-width --fail-on --jobs --bundles -h --help' ;;
     bundle) options='--explain --max-time -h --help' ;;
     merge) options='--explain --max-time -h --help' ;;
     help)
