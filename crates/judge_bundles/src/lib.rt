@@ -1,0 +1,16 @@
+//! Judges recorded runs that are bundles. A bundle is read to its end, in pieces, and isn't held in memory. Each
+//! predicate that is wished for is looked up in its document before a stream is read.
+//!
+//! - `names`: which runs are bundles, by their names
+//! - `parts`: the parts of a bundle, as far as they are kept
+//! - `contents`: what a bundle holds that was read to its end
+//! - `outcomes`: what comes of a run that is a bundle
+#![tactic(auto)]
+
+mod contents;
+mod names;
+mod outcomes;
+mod parts;
+
+pub use names::is_bundle_name;
+pub use outcomes::outcome_of_bundle;
