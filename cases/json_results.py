@@ -2,7 +2,8 @@
 """json_results.py [PROGRAM] [--schema]: tests the recorded runs among the examples, and some that can't be judged, by
 `test` with several wishes, and compares what `--format json`, `--json` and `--junit` give with the lines: the fields of
 the object have to make the lines and the numbers again, the file of JSON has to be that object, and a parser of XML has
-to find the same runs, numbers and messages in the file of JUnit.
+to find the same runs, numbers and messages in the file of JUnit. Each of these runs is also put into a bundle, of which
+the same has to come as of the folder.
 
 With --schema it is looked instead whether docs/test.schema.json takes each object, and refuses faults that are put in.
 That needs the module jsonschema, Debian's python3-jsonschema, which is there for Debian's /usr/bin/python3.
@@ -64,6 +65,40 @@ def tested(program, folder, wishes):
                           check=False)
     as_json = subprocess.run([*words, "--format", "json"], cwd=folder, capture_output=True, check=False)
     return text, as_json
+
+
+def bundle_of(run):
+    """The bytes of a bundle of the run in a folder, its streams in the document's order."""
+    with open(os.path.join(run, "session.json"), "rb") as file:
+        parts = [file.read()]
+    for process in json.loads(parts[0] or "{}").get("processes", []):
+        with open(os.path.join(run, process["name"] + ".stream"), "rb") as file:
+            parts.append(file.read())
+    return b"---\n".join(parts)
+
+
+def bundles(folder):
+    """Puts each run that has a document into a bundle, and gives the folders of the runs and the names of these."""
+    found = {}
+    for place, run in enumerate(runs()):
+        if os.path.exists(os.path.join(folder, run, "session.json")):
+            found[run] = f"{place}.bundle"
+            with open(os.path.join(folder, found[run]), "wb") as file:
+                file.write(bundle_of(os.path.join(folder, run)))
+    return found
+
+
+def compare_bundles(program, folder, wishes):
+    """What differs between the runs in folders and their bundles."""
+    found = bundles(folder)
+    words = [program, "test", *found.values(), *wishes, "--jobs", "3", "--format", "json"]
+    ran = subprocess.run(words, cwd=folder, capture_output=True, check=False)
+    of_bundles = {run["name"]: run for run in json.loads(ran.stdout)["runs"]}
+    ran = subprocess.run([program, "test", *found, *wishes, "--format", "json"], cwd=folder, capture_output=True,
+                         check=False)
+    of_folders = {run["name"]: run for run in json.loads(ran.stdout)["runs"]}
+    pairs = [({**of_folders[run], "name": name}, of_bundles[name]) for run, name in found.items()]
+    return [f"the bundle of a folder: {str(one)[:300]} and {str(other)[:300]}" for one, other in pairs if one != other]
 
 
 def compare(folder, text, as_json):
@@ -131,7 +166,10 @@ def main():
             with open(os.path.join(folder, name, "session.json"), "w", encoding="utf-8") as file:
                 file.write(document)
         for wishes in WISHES:
-            wrong += [f"test {' '.join(wishes)}: {it}" for it in look_by(folder, *tested(program, folder, wishes))]
+            found = look_by(folder, *tested(program, folder, wishes))
+            if not given.schema:
+                found += compare_bundles(program, folder, wishes)
+            wrong += [f"test {' '.join(wishes)}: {it}" for it in found]
     print("\n".join(wrong + [f"results as JSON: {len(WISHES)} looked at, {len(wrong)} wrong"]))
     return 1 if wrong else 0
 

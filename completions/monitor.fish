@@ -12,7 +12,7 @@ complete -c monitor -n '__fish_use_subcommand' -a check -d 'Checks whether the c
 complete -c monitor -n '__fish_use_subcommand' -a draw -d 'Draws a computation with the cut or the observation that a report, or else a judgement, shows of a predicate'
 complete -c monitor -n '__fish_use_subcommand' -a serve -d 'Judges predicates on a computation whose processes send their events by connections'
 complete -c monitor -n '__fish_use_subcommand' -a explore -d 'Writes a page on which a computation that is recorded in files is explored in a browser'
-complete -c monitor -n '__fish_use_subcommand' -a test -d 'Judges recorded runs, each in a folder, and says which of them are not as wished'
+complete -c monitor -n '__fish_use_subcommand' -a test -d 'Judges recorded runs, in folders or bundles, and says which of them are not as wished'
 complete -c monitor -n '__fish_use_subcommand' -a infer -d 'Writes a first session document of recorded streams'
 complete -c monitor -n '__fish_use_subcommand' -a batch -d 'Judges sessions that come one in a line, or in bundles, and writes a line of each'
 complete -c monitor -n '__fish_use_subcommand' -a bundle -d 'Writes recorded runs, each in a folder, as sessions in lines'

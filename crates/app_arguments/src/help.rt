@@ -180,13 +180,13 @@ examples/ten-lines/right.stream > run.html";
 
 /// What the help says of `test`.
 pub(crate) const TEST_ABOUT: &str =
-    "Judges recorded runs, each in a folder, and says which of them are not as wished";
+    "Judges recorded runs, in folders or bundles, and says which of them are not as wished";
 
 /// What the help of `test` ends with.
 pub(crate) const TEST_AFTER: &str =
-    "A run is a folder with the session document, session.json, and for each process NAME its stream, NAME.stream. \
-Each is judged as by `judge --beyond-width`, and has a line on the standard output, with its name and what came of \
-it:\n  \
+    "A run is a folder with the session document, session.json, and for each process NAME its stream, NAME.stream; or, \
+if its name ends in .bundle, a file with the document and the streams, a line --- before each stream. Each is judged \
+as by `judge --beyond-width`, and has a line on the standard output, with its name and what came of it:\n  \
 pass     it is as wished\n  \
 fail     an answer is not as wished, and which\n  \
 refused  the session is refused, and why\n  \

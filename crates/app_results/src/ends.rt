@@ -35,7 +35,9 @@ pub struct ResultsEnd<'a> {
 fn put_pages(out: &mut Text, pages: PagesEnd<'_>) {
     match pages.folder {
         Some(folder) if pages.count > 0 => {
-            out.say("Each run NAME that fails is explored on a page, NAME.html in the folder ");
+            out.say(
+                "Each run NAME in a folder that fails is explored on a page, NAME.html in the folder ",
+            );
             out.say_name(folder);
             out.say(": there are ");
             out.say_number(pages.count);
@@ -114,7 +116,8 @@ fn put_test<Y: System>(
         Ok(Conclusion::SomeFails | Conclusion::SomeNotJudged) => {
             out.say(
                 "What to do: a run is explained by `monitor judge --explain --beyond-width RUN/session.json \
-RUN/*.stream`, and shown by `monitor explore --beyond-width` with the same files.\n",
+RUN/*.stream`, and shown by `monitor explore --beyond-width` with the same files; for a bundle write `- < RUN` in \
+their place.\n",
             );
             put_pages(out, pages);
             put_files(out, results);

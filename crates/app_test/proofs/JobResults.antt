@@ -40,24 +40,24 @@ zip_by_place R (x ∷ xs) (y ∷ ys) same at = (
   zip_by_place R xs ys (omega (arith, same)) (λ i d e lt. at (suc i) d e (omega (arith, lt))),
 )
 
-module _ {R : Type 0} (left : R → Source) (options : Options) where
+module _ {R : Type 0} (left : R → Source) (options : Options) (wishes : List Condition) where
   -- the results of jobs, by their places
   pub results_of_jobs : (jobs : List (Job R)) (results : List (Result outcomes.Outcome EngineFault))
       → length results ≡ length jobs
       → ((i : ℕ) (job : Job R) (one : Result outcomes.Outcome EngineFault) → i < length jobs
-      → IsResultOfJob left options (slice_index_or jobs i job) (slice_index_or results i one))
-      → AllZip (IsResultOfJob left options) jobs results
-  results_of_jobs jobs results same at = zip_by_place (IsResultOfJob left options) jobs results same at
+      → IsResultOfJob left options wishes (slice_index_or jobs i job) (slice_index_or results i one))
+      → AllZip (IsResultOfJob left options wishes) jobs results
+  results_of_jobs jobs results same at = zip_by_place (IsResultOfJob left options wishes) jobs results same at
 
   -- a result has no fault but that memory ran out
-  ok_or_memory : (job : Job R) (result : Result outcomes.Outcome EngineFault) → IsResultOfJob left options job result
-      → IsOkUnless result Memory
+  ok_or_memory : (job : Job R) (result : Result outcomes.Outcome EngineFault)
+      → IsResultOfJob left options wishes job result → IsOkUnless result Memory
   ok_or_memory job (Ok outcome) is = tt
   ok_or_memory job (Err fault) is = is
 
   -- the same of all
   pub all_ok_or_memory : (jobs : List (Job R)) (results : List (Result outcomes.Outcome EngineFault))
-      → AllZip (IsResultOfJob left options) jobs results → All (λ one. IsOkUnless one Memory) results
+      → AllZip (IsResultOfJob left options wishes) jobs results → All (λ one. IsOkUnless one Memory) results
   all_ok_or_memory [] [] are = λ k d lt. absurd (omega (arith, lt))
   all_ok_or_memory [] (result ∷ results) are = absurd are
   all_ok_or_memory (job ∷ jobs) [] are = absurd are
@@ -65,11 +65,12 @@ module _ {R : Type 0} (left : R → Source) (options : Options) where
       All-cons (λ one. IsOkUnless one Memory) result results (ok_or_memory job result are.0)
       (all_ok_or_memory jobs results are.1)
 
-  module _ (files : List ℕ → File) (wishes : List Condition) where
+  module _ (files : List ℕ → File) where
     -- the runs of which something is known are those in the first folders
     pub are_runs_of : (folders : List (List ℕ)) (jobs : List (Job R))
         (results : List (Result outcomes.Outcome EngineFault))
-        → AllZip (IsJobOf left files options wishes) folders jobs → AllZip (IsResultOfJob left options) jobs results
+        → AllZip (IsJobOf left files options wishes) folders jobs
+        → AllZip (IsResultOfJob left options wishes) jobs results
         → AllZip (IsRunIn files options wishes) (take (length (runs_of folders results)) folders)
         (runs_of folders results)
     are_runs_of [] [] [] of_folders of_jobs = tt

@@ -1,4 +1,5 @@
 -- The modules of lemmas of this crate.
+mod BundleFiles
 mod OpenedStreams
 mod OutcomesOfRead
 mod JobResults

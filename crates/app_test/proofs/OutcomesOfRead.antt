@@ -17,8 +17,8 @@ use Rattle.pd_engine.specs.SessionReports.{IsTrueReportOfInputs}
 use Rattle.app_host.specs.FileSources.{IsReadOf, Knows}
 use Rattle.app_host.proofs.DocumentPrefixes.{same_document, same_judgement, same_refusal, same_truth}
 use Rattle.app_host.proofs.FilesRead.{given_as_files, of_document}
-use Rattle.app_test.specs.Jobs.{IsJobOf, IsReadJob}
-use Rattle.app_test.specs.Tests.{IsOutcome, IsReadOutcome, IsReportOfInquiry, document_in, streams_in}
+use Rattle.app_test.specs.Jobs.{IsFolderJob, IsReadJob}
+use Rattle.app_test.specs.Tests.{IsOutcomeOfFolder, IsReadOutcome, IsReportOfInquiry, document_in, streams_in}
 use Rattle.app_test.specs.declared.job.Job.{Job}
 
 -- ---- the whole document
@@ -66,7 +66,7 @@ moved files options wishes folder read bytes same (Reported report) found = reco
 outcome_of_read : (files : List ℕ → File) (options : Options) (wishes : List Condition) (folder read : List ℕ)
     → IsReadOf read (files (document_in folder)).source → (outcome : Outcome)
     → IsReadOutcome files wishes folder (inquiry_of options read) outcome
-    → IsOutcome files options wishes folder outcome
+    → IsOutcomeOfFolder files options wishes folder outcome
 outcome_of_read files options wishes folder read is outcome found =
     let all = whole_document options (files (document_in folder)) read is in
     inr (record {
@@ -79,7 +79,7 @@ outcome_of_read files options wishes folder read is outcome found =
 pub jobs_of_read : {F : Type 0} (files : List ℕ → File) (options : Options) (wishes : List Condition)
     (folder read : List ℕ) → IsReadOf read (files (document_in folder)).source → (left : F → Source)
     → (result : Result (Job F) EngineFault) → IfOk result (IsReadJob left files options wishes folder read)
-    → IfOk result (IsJobOf left files options wishes folder)
+    → IfOk result (IsFolderJob left files options wishes folder)
 jobs_of_read files options wishes folder read is left (Ok job) found =
     λ outcome given. outcome_of_read files options wishes folder read is outcome (found outcome given)
 jobs_of_read files options wishes folder read is left (Err fault) found = tt
@@ -89,10 +89,10 @@ pub unread_document : (files : List ℕ → File) (options : Options) (wishes : 
     (folder path : List ℕ) (fault : EngineFault) → path ≡ document_in folder
     → (fault ≡ Read → MayBeUnread (files path ∷ []) (files path ∷ [])) → (known : outcomes.Outcome)
     → (fault ≡ Read) × (outcome_view known ≡ Unread path)
-    → (outcome : Outcome) → outcome ≡ outcome_view known → IsOutcome files options wishes folder outcome
+    → (outcome : Outcome) → outcome ≡ outcome_view known → IsOutcomeOfFolder files options wishes folder outcome
 unread_document files options wishes folder path fault same unread known found outcome is =
-    subst (λ (o : Outcome). IsOutcome files options wishes folder o) (sym (is ∙ found.1))
-    (subst (λ (p : List ℕ). IsOutcome files options wishes folder (Unread p)) (sym same)
+    subst (λ (o : Outcome). IsOutcomeOfFolder files options wishes folder o) (sym (is ∙ found.1))
+    (subst (λ (p : List ℕ). IsOutcomeOfFolder files options wishes folder (Unread p)) (sym same)
     (inl (refl, subst (λ (p : List ℕ). MayBeUnread (files p ∷ []) (files p ∷ [])) same (unread found.0))))
 
 -- ---- the report of an inquiry

@@ -1,5 +1,5 @@
--- What a test of recorded runs leaves on its output, by the files in their folders.
-use Rattle.std.specs.Prelude.{◌≡◌, ◌⊎◌, ⊤, ℕ, Bool, true, false, List, [], ◌∷◌, ◌++◌, codes, map, take, Option, Some, None, Result, Ok, Err}
+-- What a test of recorded runs leaves on its output, by the files in their folders, and those that are bundles.
+use Rattle.std.specs.Prelude.{◌≡◌, ◌≢◌, ◌⊎◌, ⊤, ℕ, Bool, true, false, List, [], ◌∷◌, ◌++◌, codes, map, take, Option, Some, None, Result, Ok, Err}
 use Rattle.std.specs.List.{AllZip, slice_get}
 use Rattle.def_format.specs.Documents.{Document, DocumentFault, Inquiry, IsDocument, IsRefusedDocument, Options}
 use Rattle.def_format.specs.Names.{ProcessNames}
@@ -7,6 +7,7 @@ use Rattle.def_format.specs.Reports.{Report}
 use Rattle.def_judgement.specs.Writes.{Source, Whole, Writes}
 use Rattle.app_arguments.specs.Formats.{Format, Plain, Json}
 use Rattle.app_arguments.specs.Statuses.{Alarm, Ending, Failed, File, MayBeUnread, MemoryFailure, Negative, OfDocument, Success, WriteFailure, WritesUpTo, sources_of}
+use Rattle.judge_bundles.specs.BundleRuns.{IsBundleName, IsOutcomeOfBundle}
 use Rattle.judge_results.specs.Results.{results_json}
 use Rattle.judge_runs.specs.Runs.{AllPass, Conclusion, Outcome, Reported, Run, SomeFails, SomeNotJudged, Unnamed, Unread, conclusion, test_text}
 use Rattle.judge_runs.specs.Views.{conclusion_view}
@@ -17,7 +18,7 @@ use Rattle.pd_engine.specs.SessionReports.{IsTrueReportOfInputs}
 use Rattle.judge_session.specs.declared.fault.EngineFault.{EngineFault}
 use Rattle.app_host.specs.Faults.{failure_view}
 
--- ---- the files of a run
+-- ---- the files of a run in a folder
 
 abbrev pub document_in : (folder : List ℕ) → List ℕ
 document_in folder = folder ++ codes "/" ++ codes "session.json"
@@ -51,14 +52,28 @@ IsReadOutcome files wishes folder inquiry (Unnamed name) =
     (document : Document) × IsDocument inquiry document × (first_unnamed (names_asked document) wishes ≡ Some name)
 IsReadOutcome files wishes folder inquiry (Reported report) = IsReportOfInquiry files wishes folder inquiry report
 
--- First the document is read, which may not be possible; then each predicate that is wished for is looked up in it,
--- then the streams are opened, in its order, and then the run is judged.
-abbrev pub IsOutcome : (files : List ℕ → File) (options : Options) (wishes : List Condition) (folder : List ℕ)
-    → Outcome → Type 0
-IsOutcome files options wishes folder outcome =
+-- What comes of a run in a folder. First the document is read, which may not be possible; then each predicate that is
+-- wished for is looked up in it, then the streams are opened, in its order, and then the run is judged.
+abbrev pub IsOutcomeOfFolder : (files : List ℕ → File) (options : Options) (wishes : List Condition)
+    (folder : List ℕ) → Outcome → Type 0
+IsOutcomeOfFolder files options wishes folder outcome =
     (outcome ≡ Unread (document_in folder))
     × MayBeUnread (files (document_in folder) ∷ []) (files (document_in folder) ∷ [])
     ⊎ OfDocument options (files (document_in folder)) (λ inquiry. IsReadOutcome files wishes folder inquiry outcome)
+
+-- What comes of the run that is the bundle in the file of this name. The file may be such that it can't be opened, and
+-- is unread; or it is what comes of the bundle by what is known of the file.
+abbrev pub IsOutcomeOfFile : (files : List ℕ → File) (options : Options) (wishes : List Condition) (name : List ℕ)
+    → Outcome → Type 0
+IsOutcomeOfFile files options wishes name outcome =
+    (outcome ≡ Unread name) × ((files name).opens ≢ true)
+    ⊎ IsOutcomeOfBundle options wishes name (files name).source outcome
+
+-- What comes of the run of this name: its name alone says whether it is a bundle in a file, or a folder.
+pub record IsOutcome (files : List ℕ → File) (options : Options) (wishes : List Condition) (name : List ℕ)
+    (outcome : Outcome) : Type 0 where
+  pub of_bundle : IsBundleName name → IsOutcomeOfFile files options wishes name outcome
+  pub of_folder : (¬ IsBundleName name) → IsOutcomeOfFolder files options wishes name outcome
 
 -- ---- the text
 

@@ -1,10 +1,12 @@
 //! A run whose files are open, up to what comes of it.
 ghost use Rattle.app_test.specs.Jobs.{IsReady, IsResultOfJob};
 ghost use Rattle.def_format.specs.Limits.{worker_limit};
+ghost use Rattle.judge_runs.specs.Views.{wishes_view};
 ghost use Rattle.pd_spec.specs.Views.{options_view};
 ghost use Rattle.std.specs.Prelude.{◌≤◌};
 
-use judge_runs::Outcome;
+use judge_bundles::outcome_of_bundle;
+use judge_runs::{Outcome, Wish};
 use judge_session::EngineFault;
 use pd_engine::{ByteSource, Gate, Inquiry, report_inquiry};
 use pd_spec::Options;
@@ -20,6 +22,8 @@ pub(crate) enum Job<R> {
     Done(Outcome),
     /// To judge the document of these bytes, and these streams, of which nothing is read.
     Judge(Vec<u8>, Vec<R>),
+    /// To judge the bundle in the file of this name, of which nothing is read.
+    Bundle(String, R),
 }
 
 /// What comes of a run whose files are open. The workers, from 1 to 16, and the gate change how long it takes, and
@@ -35,6 +39,7 @@ pub(crate) fn outcome_of_job<
     rt: &S,
     alloc: Global,
     options: &Options<'_>,
+    wishes: &[Wish<'_>],
     workers: u64,
     gate: &G,
     job: Job<R>,
@@ -42,7 +47,7 @@ pub(crate) fn outcome_of_job<
     requires ready { IsReady R.has_ended job }
     requires some_workers { 1 ≤ workers }
     requires few_workers { workers ≤ worker_limit }
-    ensures { IsResultOfJob R.left (options_view options.now) job result }
+    ensures { IsResultOfJob R.left (options_view options.now) (wishes_view wishes.now) job result }
 {
     match job {
         Job::Done(outcome) => Ok(outcome),
@@ -53,6 +58,9 @@ pub(crate) fn outcome_of_job<
             };
             let report = report_inquiry(rt, alloc, inquiry, streams, workers, gate)?;
             Ok(Outcome::Reported(report))
+        }
+        Job::Bundle(name, file) => {
+            outcome_of_bundle(rt, alloc, options, wishes, workers, gate, name, file)
         }
     }
 }

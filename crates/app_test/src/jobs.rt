@@ -1,12 +1,13 @@
 //! Runs whose files are open, judged side by side.
 ghost use Rattle.app_test.specs.Jobs.{IsReady, IsResultOfJob};
 ghost use Rattle.def_format.specs.Limits.{worker_limit};
+ghost use Rattle.judge_runs.specs.Views.{wishes_view};
 ghost use Rattle.pd_spec.specs.Views.{options_view};
 ghost use Rattle.std.specs.Prelude.{◌≡◌, ◌<◌, ◌≤◌, ℕ, All, IfOk, slice_index_or, vec_len};
 ghost use Rattle.std.specs.Thread.{IsSync};
 
 use super::job::{Job, outcome_of_job};
-use judge_runs::Outcome;
+use judge_runs::{Outcome, Wish};
 use judge_session::EngineFault;
 use pd_engine::{ByteSource, Gate};
 use pd_spec::Options;
@@ -27,6 +28,7 @@ pub(crate) fn outcomes_of_jobs<
     rt: &S,
     alloc: &Global,
     options: &Options<'_>,
+    wishes: &[Wish<'_>],
     workers: u64,
     gate: &G,
     jobs: Vec<Job<R>>,
@@ -36,7 +38,7 @@ pub(crate) fn outcomes_of_jobs<
     requires few_workers { workers ≤ worker_limit }
     ensures one_each { IfOk result (λ found. vec_len found ≡ vec_len jobs) }
     ensures found { IfOk result (λ found. (i : ℕ) (job : _) (one : _) → i < vec_len jobs
-        → IsResultOfJob R.left (options_view options.now) (slice_index_or jobs.items i job)
+        → IsResultOfJob R.left (options_view options.now) (wishes_view wishes.now) (slice_index_or jobs.items i job)
         (slice_index_or found.items i one)) }
 {
     map_vec(
@@ -45,7 +47,7 @@ pub(crate) fn outcomes_of_jobs<
         &|job: Job<R>| -> Result<Outcome, EngineFault>
             requires { IsSync S.row × IsSync G.row × IsReady R.has_ended job × (1 ≤ workers)
                 × (workers ≤ worker_limit) }
-            ensures { IsResultOfJob R.left (options_view options.entry.now) job result }
-        { outcome_of_job(rt, *alloc, options, workers, gate, job) },
+            ensures { IsResultOfJob R.left (options_view options.entry.now) (wishes_view wishes.entry.now) job result }
+        { outcome_of_job(rt, *alloc, options, wishes, workers, gate, job) },
     )
 }

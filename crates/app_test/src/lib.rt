@@ -1,10 +1,11 @@
 //! Tests recorded runs, each of them a folder with its session document, `session.json`, and a file `NAME.stream` for
-//! the stream of each process NAME of the document.
+//! the stream of each process NAME of the document; or a bundle in a file, if its name ends in `.bundle`.
 //!
-//! Of a run the document is read, each predicate that is wished for is looked up in it, the streams are opened in its
-//! order, and the report is made. A run that can't be read or is refused isn't judged, and the test goes on with the
-//! others. Some runs are judged side by side: their files are opened one after another, then each is judged in a thread
-//! of its own, and their lines are written in order as soon as all of them are judged. Memory holds these runs alone.
+//! Of a run in a folder the document is read, each predicate that is wished for is looked up in it, the streams are
+//! opened in its order, and the report is made. A bundle is opened, and then read and judged at once. A run that can't
+//! be read or is refused isn't judged, and the test goes on with the others. Some runs are judged side by side: their
+//! files are opened one after another, then each is judged in a thread of its own, and their lines are written in order
+//! as soon as all of them are judged. Memory holds these runs alone.
 //!
 //! What a test leaves on its output stands in `specs/Tests.antt`. The three files of definitions beside it are for the
 //! functions within: `ReadRuns` says why the streams of a run aren't open, `Jobs` what comes of runs whose files are
@@ -16,6 +17,7 @@
 //! - `run_streams`: opens the streams of a run
 //! - `job`: a run whose files are open, up to what comes of it
 //! - `jobs`: runs whose files are open, judged side by side
+//! - `run_bundle`: opens a run that is a bundle
 //! - `run`: opens the files of a run
 //! - `records`: what is kept of the runs so far
 //! - `tests`: tests runs, some at a time
@@ -27,6 +29,7 @@ mod job;
 mod jobs;
 mod records;
 mod run;
+mod run_bundle;
 mod run_document;
 mod run_files;
 mod run_streams;

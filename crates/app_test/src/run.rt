@@ -1,5 +1,5 @@
 //! Opens the files of a run.
-ghost use Rattle.app_test.specs.Jobs.{IsJobOf, IsReadJob, IsReady};
+ghost use Rattle.app_test.specs.Jobs.{IsFolderJob, IsJobOf, IsReadJob, IsReady};
 ghost use Rattle.def_format.specs.Documents.{DocumentFault, IsDocument, IsRefusedDocument, inquiry_of};
 ghost use Rattle.judge_runs.specs.Runs as runs;
 ghost use Rattle.judge_runs.specs.Views.{outcome_view, wishes_view};
@@ -10,12 +10,14 @@ ghost use Rattle.std.specs.List.{AllZip};
 ghost use Rattle.std.specs.Prelude.{◌≡◌, All, IfOk, IsOkUnless, List, None, map, string_bytes};
 
 use super::job::Job;
+use super::run_bundle::bundle_job;
 use super::run_document::read_run_document;
 use super::run_files::document_in;
 use super::run_streams::open_streams;
 use super::unopened::Unopened;
 use app_host::{FileSource, NotedSource, System, World, is_out_of_memory};
 use def_judgement::one_document;
+use judge_bundles::is_bundle_name;
 use judge_runs::{Outcome, Wish, first_unnamed};
 use judge_session::EngineFault;
 use pd_spec::{Options, Spec};
@@ -145,13 +147,13 @@ fn read_job<'n, Y: System>(
 ///
 /// # Errors
 /// `Memory`.
-pub(crate) fn job_of<'n, Y: System>(
+fn folder_job<'n, Y: System>(
     world: &World<'n, Y>,
     folder: &str,
     options: &Options<'_>,
     wishes: &[Wish<'_>],
 ) -> Result<Job<NotedSource<'n, <Y::Files as FileSource>::File>>, EngineFault>
-    ensures job { IfOk result (IsJobOf (λ stream. Y.Files.File.left stream.source)
+    ensures job { IfOk result (IsFolderJob (λ stream. Y.Files.File.left stream.source)
         (Y.Files.file_of world.now.files.now) (options_view options.now) (wishes_view wishes.now) folder.now) }
     ensures ready { IfOk result (IsReady (λ stream. Y.Files.File.has_ended stream.source)) }
     ensures err { IsOkUnless result EngineFault.Memory }
@@ -166,25 +168,47 @@ pub(crate) fn job_of<'n, Y: System>(
     }
 }
 
-/// What is left to do of the runs in these folders, in their order, once their files are open.
+/// What is left to do of the run of this name once its files are open: it is a bundle, if its name is such, and else a
+/// folder.
+///
+/// # Errors
+/// `Memory`.
+pub(crate) fn job_of<'n, Y: System>(
+    world: &World<'n, Y>,
+    name: &str,
+    options: &Options<'_>,
+    wishes: &[Wish<'_>],
+) -> Result<Job<NotedSource<'n, <Y::Files as FileSource>::File>>, EngineFault>
+    ensures job { IfOk result (IsJobOf (λ stream. Y.Files.File.left stream.source)
+        (Y.Files.file_of world.now.files.now) (options_view options.now) (wishes_view wishes.now) name.now) }
+    ensures ready { IfOk result (IsReady (λ stream. Y.Files.File.has_ended stream.source)) }
+    ensures err { IsOkUnless result EngineFault.Memory }
+{
+    if is_bundle_name(name) {
+        return bundle_job(world, name);
+    }
+    folder_job(world, name, options, wishes)
+}
+
+/// What is left to do of the runs of these names, in their order, once their files are open.
 ///
 /// # Errors
 /// `Memory`.
 pub(crate) fn jobs_of<'n, Y: System>(
     world: &World<'n, Y>,
-    folders: &[&str],
+    names: &[&str],
     options: &Options<'_>,
     wishes: &[Wish<'_>],
 ) -> Result<Vec<Job<NotedSource<'n, <Y::Files as FileSource>::File>>>, EngineFault>
     ensures jobs { IfOk result (λ jobs. AllZip (IsJobOf (λ stream. Y.Files.File.left stream.source)
         (Y.Files.file_of world.now.files.now) (options_view options.now) (wishes_view wishes.now))
-        (map (λ name. name.now) folders.now) jobs.items) }
+        (map (λ name. name.now) names.now) jobs.items) }
     ensures ready { IfOk result (λ jobs. All (IsReady (λ stream. Y.Files.File.has_ended stream.source)) jobs.items) }
     ensures err { IsOkUnless result EngineFault.Memory }
 {
     let mut jobs = Vec::new(world.alloc);
-    for folder in folders {
-        jobs.push(job_of(world, folder, options, wishes)?)?;
+    for name in names {
+        jobs.push(job_of(world, name, options, wishes)?)?;
     }
     Ok(jobs)
 }

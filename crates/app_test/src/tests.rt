@@ -235,7 +235,15 @@ fn test_asked<'f, Y: System, G: Gate + Sync, O: Write>(
 {
     let jobs = jobs_of(world, folders, &test.options, asked.wishes)?;
     let workers = test.workers.count();
-    let found = outcomes_of_jobs(world.rt, &world.alloc, &test.options, workers, gate, jobs)?;
+    let found = outcomes_of_jobs(
+        world.rt,
+        &world.alloc,
+        &test.options,
+        asked.wishes,
+        workers,
+        gate,
+        jobs,
+    )?;
     put_runs(world.alloc, asked, folders, &found, records, output)
 }
 

@@ -9,17 +9,17 @@ use Rattle.app_test.specs.Jobs.{IsJobOf, IsReady}
 use Rattle.app_test.proofs.JobResults.{take_next}
 use Rattle.app_test.proofs.run.jobs_of.Goals as goal
 
-pub loop-folder-preserved : goal.loop-folder-preserved
-loop-folder-preserved g c =
+pub loop-name-preserved : goal.loop-name-preserved
+loop-name-preserved g c =
     let IsJob = IsJobOf (λ stream. g.Y.Files.File.ByteSource.left stream.source)
     (g.Y.Files.FileSource.file_of c.args.world.now.files.now) (options_view c.args.options.now)
     (wishes_view c.args.wishes.now) in
     rw c.in_ok-push.ensures.items (record {
       jobs = subst (λ (some : List (List ℕ)). AllZip IsJob some
-          (c.loop-folder.jobs.items ++ c.in_ok-job_of.field-0 ∷ []))
-          (sym (take_next (λ name. name.now) c.args.folders.now c.loop-folder.folder-index _ c.loop-folder-test.true))
-          (zip_on IsJob _ _ _ _ c.loop-folder.invariant.jobs c.in_ok-job_of.ensures.job);
+          (c.loop-name.jobs.items ++ c.in_ok-job_of.field-0 ∷ []))
+          (sym (take_next (λ name. name.now) c.args.names.now c.loop-name.name-index _ c.loop-name-test.true))
+          (zip_on IsJob _ _ _ _ c.loop-name.invariant.jobs c.in_ok-job_of.ensures.job);
       ready = All-push (IsReady (λ stream. g.Y.Files.File.ByteSource.has_ended stream.source))
-          c.loop-folder.jobs.items c.in_ok-job_of.field-0 c.loop-folder.invariant.ready
+          c.loop-name.jobs.items c.in_ok-job_of.field-0 c.loop-name.invariant.ready
           c.in_ok-job_of.ensures.ready;
     })

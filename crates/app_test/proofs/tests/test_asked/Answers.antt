@@ -49,9 +49,9 @@ returns-clause-tested g c =
     let folders = names_view c.args.folders.now in
     let jobs = c.in_ok-jobs.jobs.items in
     let results = c.in_ok-found.found.items in
-    let are = are_runs_of (λ stream. g.Y.Files.File.ByteSource.left stream.source) options files wishes folders jobs
+    let are = are_runs_of (λ stream. g.Y.Files.File.ByteSource.left stream.source) options wishes files folders jobs
     results c.in_ok-jobs.ensures.jobs
-    (results_of_jobs (λ stream. g.Y.Files.File.ByteSource.left stream.source) options jobs results
+    (results_of_jobs (λ stream. g.Y.Files.File.ByteSource.left stream.source) options wishes jobs results
     (omega (arith, c.in_ok-found.ensures.one_each, c.in_ok-found.found.ok.0, c.in_ok-jobs.jobs.ok.0))
     (λ i job one lt. c.in_ok-found.ensures.found i job one (omega (arith, lt, c.in_ok-jobs.jobs.ok.0)))) in
     tests_more files options wishes (format_view c.args.asked.now.format) folders c.deref.result.now
@@ -73,9 +73,9 @@ returns-clause-left g c =
     let folders = names_view c.args.folders.now in
     let jobs = c.in_ok-jobs.jobs.items in
     let results = c.in_ok-found.found.items in
-    let are = are_runs_of (λ stream. g.Y.Files.File.ByteSource.left stream.source) options files wishes folders jobs
+    let are = are_runs_of (λ stream. g.Y.Files.File.ByteSource.left stream.source) options wishes files folders jobs
     results c.in_ok-jobs.ensures.jobs
-    (results_of_jobs (λ stream. g.Y.Files.File.ByteSource.left stream.source) options jobs results
+    (results_of_jobs (λ stream. g.Y.Files.File.ByteSource.left stream.source) options wishes jobs results
     (omega (arith, c.in_ok-found.ensures.one_each, c.in_ok-found.found.ok.0, c.in_ok-jobs.jobs.ok.0))
     (λ i job one lt. c.in_ok-found.ensures.found i job one (omega (arith, lt, c.in_ok-jobs.jobs.ok.0)))) in
     leaves_more files options wishes (format_view c.args.asked.now.format) folders c.deref.result.now
