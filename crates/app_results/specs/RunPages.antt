@@ -7,7 +7,10 @@ use Rattle.app_arguments.specs.Statuses.{File, OfDocument, PageOptions, sources_
 use Rattle.app_host.specs.FileSources.{bytes_in}
 use Rattle.app_test.specs.Tests.{document_in, streams_in}
 use Rattle.judge_runs.specs.Wishes.{Condition}
-use Rattle.app_explore.specs.Explorations.{AskedPage, IsOwedWith}
+use Rattle.judge_bundle_pages.specs.BundlePages.{IsPageOfBundle}
+use Rattle.judge_bundles.specs.BundleRuns.{IsBundleName}
+use Rattle.judge_explore.specs.Explored.{Form}
+use Rattle.app_explore.specs.Explorations.{AskedPage, IsFormOf, IsOwedWith}
 
 -- a wish is for the predicate of a name
 abbrev pub is_named : Option (List ℕ) → Bool
@@ -33,11 +36,24 @@ IsPageOfDocument files page folder inquiry text =
     (sources_of (map files (streams_in folder document.names))) (λ other. other ≡ report) text
 
 -- The same of the document in the folder: it is the page that `explore` owes of the run with these options and wishes.
-abbrev pub IsPageOfRun : (files : List ℕ → File) (options : Options) (wishes : List Condition) (folder : List ℕ)
+abbrev pub IsPageOfFolder : (files : List ℕ → File) (options : Options) (wishes : List Condition) (folder : List ℕ)
     → (text : List ℕ) → Type 0
-IsPageOfRun files options wishes folder text =
+IsPageOfFolder files options wishes folder text =
     OfDocument options (files (document_in folder))
     (λ inquiry. IsPageOfDocument files (page_of_wishes wishes) folder inquiry text)
+
+-- The text is the page of the bundle in the file of this name, with these options and wishes.
+abbrev pub IsPageOfFile : (files : List ℕ → File) (options : Options) (wishes : List Condition) (name : List ℕ)
+    → (text : List ℕ) → Type 0
+IsPageOfFile files options wishes name text =
+    (form : Form) × IsFormOf (bytes_in files) (AskedPage (page_of_wishes wishes)) form
+    × IsPageOfBundle options form name (files name).source text
+
+-- The text is the page of the run of this name, by which it is a bundle in a file, or a folder.
+pub record IsPageOfRun (files : List ℕ → File) (options : Options) (wishes : List Condition) (name : List ℕ)
+    (text : List ℕ) : Type 0 where
+  pub of_bundle : IsBundleName name → IsPageOfFile files options wishes name text
+  pub of_folder : (¬ IsBundleName name) → IsPageOfFolder files options wishes name text
 
 -- ---- their files
 

@@ -35,9 +35,7 @@ pub struct ResultsEnd<'a> {
 fn put_pages(out: &mut Text, pages: PagesEnd<'_>) {
     match pages.folder {
         Some(folder) if pages.count > 0 => {
-            out.say(
-                "Each run NAME in a folder that fails is explored on a page, NAME.html in the folder ",
-            );
+            out.say("Each run NAME that fails is explored on a page, NAME.html in the folder ");
             out.say_name(folder);
             out.say(": there are ");
             out.say_number(pages.count);

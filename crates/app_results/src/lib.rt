@@ -4,6 +4,7 @@
 //! into files is stated of the calls that write, in `specs/RunPages.antt` and `specs/ResultFiles.antt`.
 //!
 //! - `unwritten`: which file or folder couldn't be written first, and why
+//! - `bundle_pages`: the page of a recorded run that is a bundle
 //! - `run_page`: the page of a recorded run
 //! - `page_names`: the names of the pages of recorded runs
 //! - `pages`: writes the pages of recorded runs that fail
@@ -12,6 +13,7 @@
 //! - `ends`: an explanation of how that ended
 #![tactic(auto)]
 
+mod bundle_pages;
 mod ends;
 mod page_names;
 mod pages;

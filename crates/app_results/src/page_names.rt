@@ -4,9 +4,10 @@ ghost use Rattle.std.specs.List.{list_any};
 ghost use Rattle.std.specs.Prelude.{◌≡◌, IfOk, false, map, string_bytes};
 ghost use Rattle.std.specs.Str.{bytes_eq};
 
+use judge_bundles::is_bundle_name;
 use std::alloc::{AllocError, Global};
 
-/// The name of a run whose folder's name ends in none.
+/// The name of a run whose own ends in none.
 const NO_NAME: &str = "run";
 
 /// What stands after the last slash, without slashes at the end.
@@ -18,6 +19,15 @@ fn after_slash(name: &str) -> &str {
     }
 }
 
+/// What stands after the last slash of a run's name, without slashes at the end, and of a bundle without its ending.
+fn part_of(name: &str) -> &str {
+    let part = after_slash(name);
+    if is_bundle_name(name) {
+        return part.strip_suffix(".bundle").unwrap_or(part);
+    }
+    part
+}
+
 /// Whether a name has a slash.
 fn has_slash(name: &str) -> bool
     ensures { result ≡ has_slash name.now }
@@ -25,11 +35,12 @@ fn has_slash(name: &str) -> bool
     name.as_bytes().iter().any(|byte| *byte == b'/')
 }
 
-/// The last part of the name of a run's folder; `run`, if that names no file of a folder: nothing, `.` or `..`.
-fn last_part(folder: &str) -> &str
+/// The last part of a run's name, of a bundle without its ending; `run`, if that names no file of a folder: nothing,
+/// `.` or `..`.
+fn last_part(name: &str) -> &str
     ensures { IsFlat result.now }
 {
-    match after_slash(folder) {
+    match part_of(name) {
         "" | "." | ".." => NO_NAME,
         last if has_slash(last) => NO_NAME,
         last => last,
@@ -39,7 +50,7 @@ fn last_part(folder: &str) -> &str
 /// The names that pages were given.
 #[derive(Drop)]
 pub(crate) struct PageNames<'a> {
-    /// The last parts of the names of the runs' folders.
+    /// The last parts of the runs' names.
     parts: Vec<&'a str>,
     /// The pages' names.
     names: Vec<String>,
@@ -89,13 +100,13 @@ impl<'a> PageNames<'a> {
         Ok(name)
     }
 
-    /// The name of the page of the run in this folder, without its ending: the last part of the folder's name, and if
-    /// a page before has that, a number after it.
+    /// The name of the page of the run of this name, without its ending: the last part of the run's name, and if a page
+    /// before has that, a number after it.
     ///
     /// # Errors
     /// An allocation was refused.
-    pub(crate) fn add(&mut self, alloc: Global, folder: &'a str) -> Result<&str, AllocError> {
-        let part = last_part(folder);
+    pub(crate) fn add(&mut self, alloc: Global, run: &'a str) -> Result<&str, AllocError> {
+        let part = last_part(run);
         let name = self.free_name(alloc, part)?;
         self.parts.push(part)?;
         self.names.push(name)?;

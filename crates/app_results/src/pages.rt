@@ -10,7 +10,6 @@ use super::run_page::run_page;
 use super::unwritten::Unwritten;
 use app_arguments::Test;
 use app_host::{FileSource, System, World, replace_file};
-use judge_bundles::is_bundle_name;
 use judge_session::EngineFault;
 use pd_engine::Gate;
 use std::alloc::{AllocError, Global};
@@ -137,8 +136,7 @@ fn add_page<'a, Y: System, G: Gate + Sync>(
     Ok(())
 }
 
-/// Writes the pages of those of these runs that are folders, if pages are wanted. If one can't be written it is noted
-/// why, and the others are.
+/// Writes the pages of these runs, if pages are wanted. If one can't be written it is noted why, and the others are.
 ///
 /// # Errors
 /// `Memory`.
@@ -152,9 +150,7 @@ pub(crate) fn add_pages<'a, Y: System, G: Gate + Sync>(
     ensures { IfErr result (λ fault. fault ≡ EngineFault.Memory) }
 {
     for run in runs {
-        if !is_bundle_name(run) {
-            add_page(world, run, test, gate, pages)?;
-        }
+        add_page(world, run, test, gate, pages)?;
     }
     Ok(())
 }

@@ -4,14 +4,16 @@ ghost use Rattle.app_host.specs.FileSources.{bytes_in};
 ghost use Rattle.app_test.specs.Tests.{streams_in};
 ghost use Rattle.def_format.specs.Documents.{IsDocument, inquiry_of};
 ghost use Rattle.judge_runs.specs.Views.{wish_view, wishes_view};
-ghost use Rattle.app_results.specs.RunPages.{IsPageOfDocument, IsPageOfRun, is_named, named_wishes, page_of_wishes};
+ghost use Rattle.app_results.specs.RunPages.{IsPageOfDocument, IsPageOfFolder, IsPageOfRun, is_named, named_wishes, page_of_wishes};
 ghost use Rattle.pd_spec.specs.Views.{document_view, options_view};
 ghost use Rattle.std.specs.Prelude.{◌≡◌, IfOk, map, string_bytes};
 
+use super::bundle_pages::bundle_page;
 use app_arguments::{PageOptions, Test};
 use app_explore::{extras_of, stream_files};
 use app_host::{System, World, is_out_of_memory};
 use app_test::{Unopened, document_in, open_streams, read_run_document, stream_in};
+use judge_bundles::is_bundle_name;
 use judge_explore::{Form, Page, explore};
 use judge_runs::{Wish, first_unnamed};
 use judge_session::{EngineFault, Unanswered};
@@ -43,7 +45,10 @@ fn named_wishes<'a>(alloc: Global, wishes: &[Wish<'a>]) -> Result<Vec<Wish<'a>>,
 }
 
 /// What is asked of the page of a run of which this is wished.
-fn page_options<'a>(alloc: Global, wishes: &[Wish<'a>]) -> Result<PageOptions<'a>, AllocError>
+pub(crate) fn page_options<'a>(
+    alloc: Global,
+    wishes: &[Wish<'a>],
+) -> Result<PageOptions<'a>, AllocError>
     ensures { IfOk result (λ page. page_view page ≡ page_of_wishes (wishes_view wishes.now)) }
 {
     Ok(PageOptions {
@@ -135,13 +140,13 @@ fn document_page<Y: System, G: Gate + Sync>(
 /// # Errors
 /// `Read`, if a file can't be opened, the document can't be read, is refused or lacks a predicate that is wished for,
 /// and `Memory`.
-pub(crate) fn run_page<Y: System, G: Gate + Sync>(
+fn folder_page<Y: System, G: Gate + Sync>(
     world: &World<'_, Y>,
     folder: &str,
     test: &Test<'_>,
     gate: &G,
 ) -> Result<Vec<u8>, EngineFault>
-    ensures { IfOk result (λ text. IsPageOfRun (Y.Files.file_of world.now.files.now) (options_view test.now.options)
+    ensures { IfOk result (λ text. IsPageOfFolder (Y.Files.file_of world.now.files.now) (options_view test.now.options)
         (wishes_view test.now.wishes.items) folder.now text.items) }
 {
     let path = document_in(world.alloc, folder)?;
@@ -160,4 +165,25 @@ pub(crate) fn run_page<Y: System, G: Gate + Sync>(
             Err(EngineFault::Read)
         }
     }
+}
+
+/// The page of the run of this name, on which it is explored with what is asked and wished of it; its files, or that of
+/// the bundle, are read once more.
+///
+/// # Errors
+/// `Read`, if a file can't be opened or read, or the session is refused or lacks a predicate that is wished for, and
+/// `Memory`.
+pub(crate) fn run_page<Y: System, G: Gate + Sync>(
+    world: &World<'_, Y>,
+    name: &str,
+    test: &Test<'_>,
+    gate: &G,
+) -> Result<Vec<u8>, EngineFault>
+    ensures { IfOk result (λ text. IsPageOfRun (Y.Files.file_of world.now.files.now) (options_view test.now.options)
+        (wishes_view test.now.wishes.items) name.now text.items) }
+{
+    if is_bundle_name(name) {
+        return bundle_page(world, name, test, gate);
+    }
+    folder_page(world, name, test, gate)
 }

@@ -1,5 +1,5 @@
 -- What comes of a bundle by its reader comes of it by its file.
-use Rattle.std.proofs.Common.{◌≡◌, ℕ, Bool, List, true, false, Ok, Err, inl, inr, sym, subst, ◌∙◌}
+use Rattle.std.proofs.Common.{◌≡◌, ℕ, Bool, List, true, false, Ok, Err, inl, inr, sym, subst}
 use Rattle.std.specs.Bool.{OnFalse, OnTrue}
 use Rattle.std.specs.Prelude.{◌⊎◌, IfOk, Result}
 use Rattle.def_format.specs.Documents.{Options}
@@ -28,7 +28,7 @@ module _ (file left : Source) (knows : Knows file left) where
   unread_of_file (inl broken) = inl (broken_of_file broken)
   unread_of_file (inr long) = inr (of_known_bytes file left _ knows long)
 
-  held_of_file : (P : (document : List ℕ) (streams : List (List ℕ)) → Type 0) → OfBundle left P → OfBundle file P
+  pub held_of_file : (P : (document : List ℕ) (streams : List (List ℕ)) → Type 0) → OfBundle left P → OfBundle file P
   held_of_file P held = record {
     bundle = held.bundle;
     is_given = whole_of_file file left held.bundle knows held.is_given;
@@ -67,17 +67,17 @@ module _ {R : Type 0} (left : R → Source) (files : List ℕ → File) (options
       → IfOk result (λ (job : Job R). (asked : Options) (wished : List Condition)
       → IsBundleJob left files asked wished name job)
       → IfOk result (IsJobOf left files options wishes name)
-  job_of_bundle (Ok job) yes named is = λ outcome given. record {
+  job_of_bundle (Ok job) holds named is = λ outcome given. record {
     of_bundle = λ _. is options wishes outcome given;
-    of_folder = λ not. absurd (not (subst (λ (b : Bool). OnTrue b (IsBundleName name)) yes named));
+    of_folder = λ not. absurd (not (subst (λ (b : Bool). OnTrue b (IsBundleName name)) holds named));
   }
-  job_of_bundle (Err fault) yes named is = tt
+  job_of_bundle (Err fault) holds named is = tt
 
   pub job_of_folder : (result : Result (Job R) EngineFault) → found ≡ false
       → OnFalse found (¬ IsBundleName name) → IfOk result (IsFolderJob left files options wishes name)
       → IfOk result (IsJobOf left files options wishes name)
-  job_of_folder (Ok job) no unnamed is = λ outcome given. record {
-    of_bundle = λ named. absurd (subst (λ (b : Bool). OnFalse b (¬ IsBundleName name)) no unnamed named);
+  job_of_folder (Ok job) fails unnamed is = λ outcome given. record {
+    of_bundle = λ named. absurd (subst (λ (b : Bool). OnFalse b (¬ IsBundleName name)) fails unnamed named);
     of_folder = λ _. is outcome given;
   }
-  job_of_folder (Err fault) no unnamed is = tt
+  job_of_folder (Err fault) fails unnamed is = tt

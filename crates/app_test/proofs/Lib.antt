@@ -1,5 +1,5 @@
 -- The modules of lemmas of this crate.
-mod BundleFiles
+pub mod BundleFiles
 mod OpenedStreams
 mod OutcomesOfRead
 mod JobResults

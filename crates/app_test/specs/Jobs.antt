@@ -1,6 +1,5 @@
 -- What comes of runs whose files are open.
 use Rattle.std.specs.Prelude.{◌≡◌, ⊤, ℕ, Bool, false, All, List, [], ◌∷◌, map, string_bytes, Result, Ok, Err}
-use Rattle.std.specs.List.{AllZip}
 use Rattle.def_format.specs.Documents.{Options, inquiry_of}
 use Rattle.def_format.specs.Reports.{Report}
 use Rattle.def_judgement.specs.Writes.{Source}

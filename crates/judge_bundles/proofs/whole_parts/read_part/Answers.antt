@@ -3,7 +3,7 @@ use Rattle.std.proofs.Common.{◌≡◌, ◌∙◌, ◌++◌, ap, []}
 use Rattle.def_judgement.specs.Writes.{IsBrokenOff, IsTooLong}
 use Rattle.read_bundle.specs.declared.fault.BundleFault.TheVariants as faults
 use Rattle.read_bundle.proofs.PartSteps.{part_grows, part_fault, part_read, same_fault}
-use Rattle.app_parts.proofs.parts.read_part.Goals as goal
+use Rattle.judge_bundles.proofs.whole_parts.read_part.Goals as goal
 
 pub steps-preserved : goal.steps-preserved
 steps-preserved g c = record {

@@ -2,7 +2,7 @@
 use Rattle.std.proofs.Common.{◌≡◌, false}
 use Rattle.read_bundle.specs.PartsRead.{AtStep}
 use Rattle.read_bundle.specs.Steps.{turns_left}
-use Rattle.app_parts.proofs.parts.read_part.Given as goal
+use Rattle.judge_bundles.proofs.whole_parts.read_part.Given as goal
 
 abbrev pub invariant-steps : goal.invariant-steps
 invariant-steps g l = record {

@@ -1,0 +1,3 @@
+-- The modules of lemmas of this crate.
+mod StreamFiles
+mod WholeParts
