@@ -168,8 +168,9 @@ abbrev pub SameViewsReduce : Type 0
 SameViewsReduce =
     (r r' : Recorded) (predicate : Predicate) (names : Names) (from to from' to' : List ℕ) (kept kept' : Place → Bool)
     → (events : HaveSameEvents (window r.events from to) kept (window r'.events from' to') kept')
-    → KeepProcesses (window r.events from to) kept (window r'.events from' to') kept' names events
-    → ((p m n : ℕ) → AreEquallyFar (window r.events from to) kept (window r'.events from' to') kept' names events p m n
+    → KeepProcesses (window r.events from to) kept names events.image
+    → ((p m n : ℕ)
+    → AreEquallyFar (window r.events from to) kept (window r'.events from' to') names events.image p m n
     → SeesTheSameIn r m r' n names p predicate)
     → IsReduction (window r.events from to) kept (test_of r predicate) (window r'.events from' to') kept'
     (test_of r' (renamed names predicate))

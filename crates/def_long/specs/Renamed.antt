@@ -5,7 +5,6 @@ use Rattle.def_model.specs.Decided.{NameAlone}
 use Rattle.def_model.specs.Predicates.{Sign, Term, Number, Variable, Times, Comparison, Predicate, Always, Never, Compare, Not, And, Or, Recorded, sum_value, compares}
 use Rattle.def_long.specs.Windows.{Window}
 use Rattle.def_long.specs.Kept.{IsKept}
-use Rattle.def_long.specs.Reductions.{HaveSameEvents}
 use Rattle.def_long.specs.Views.{value_after}
 
 -- the numbers that processes and their variables have in a reduction
@@ -69,20 +68,19 @@ SeesTheSameIn r m r' n names p (And left right) =
 SeesTheSameIn r m r' n names p (Or left right) =
     SeesTheSameIn r m r' n names p left × SeesTheSameIn r m r' n names p right
 
--- ---- of a reduction
+-- ---- of a reduction, of which `image` gives the image of each kept event
 
 -- the image of an event is one of the process that has the place of its process
-abbrev pub KeepProcesses : (w : Window) (kept : Place → Bool) (w' : Window) (kept' : Place → Bool) (names : Names)
-    → HaveSameEvents w kept w' kept' → Type 0
-KeepProcesses w kept w' kept' names events =
-    (e : Place) → IsKept w kept e → (events.image e).process ≡ names.process e.process
+abbrev pub KeepProcesses : Window → (Place → Bool) → Names → (Place → Place) → Type 0
+KeepProcesses w kept names image =
+    (e : Place) → IsKept w kept e → (image e).process ≡ names.process e.process
 
 -- The window has come equally far after m events of process p as the other after n: a kept event is among the first m
 -- exactly if its image is among the first n.
-pub record AreEquallyFar (w : Window) (kept : Place → Bool) (w' : Window) (kept' : Place → Bool) (names : Names)
-    (events : HaveSameEvents w kept w' kept') (p m n : ℕ) : Type 0 where
+pub record AreEquallyFar (w : Window) (kept : Place → Bool) (w' : Window) (names : Names) (image : Place → Place)
+    (p m n : ℕ) : Type 0 where
   pub low : slice_index w.from p ≤ m
   pub high : m ≤ slice_index w.to p
   pub low' : slice_index w'.from (names.process p) ≤ n
   pub high' : n ≤ slice_index w'.to (names.process p)
-  pub same : (k : ℕ) → IsKept w kept (place p k) → (k ≤ m) ↔ ((events.image (place p k)).number ≤ n)
+  pub same : (k : ℕ) → IsKept w kept (place p k) → (k ≤ m) ↔ ((image (place p k)).number ≤ n)
