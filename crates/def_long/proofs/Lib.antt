@@ -11,6 +11,8 @@ pub mod Images
 pub mod Parts
 pub mod WindowsOfRun
 pub mod Reduced
+pub mod EventOrders
+pub mod MadeOrder
 pub mod RenamedViews
 pub mod SeenSets
 pub mod Tried

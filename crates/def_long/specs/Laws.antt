@@ -14,6 +14,7 @@ use Rattle.def_long.specs.Boundaries.{IsBoundary, OfSomePart}
 use Rattle.def_long.specs.Views.{AreSeen, OthersAreUnseen}
 use Rattle.def_long.specs.Reductions.{HaveSameEvents, IsReduction}
 use Rattle.def_long.specs.Renamed.{AreEquallyFar, KeepProcesses, Names, SeesTheSameIn, renamed}
+use Rattle.def_long.specs.MadeMessages.{KeepsOrderByMessages}
 
 -- A run in which no event happened before itself is a window, and has the answers of that window.
 abbrev pub RunIsWindow : Type 0
@@ -174,3 +175,16 @@ SameViewsReduce =
     → SeesTheSameIn r m r' n names p predicate)
     → IsReduction (window r.events from to) kept (test_of r predicate) (window r'.events from' to') kept'
     (test_of r' (renamed names predicate))
+
+-- Messages to neighbors keep the order, so the windows have the same events, with these images and origins.
+abbrev pub MessagesKeepOrder : Type 0
+MessagesKeepOrder =
+    (w w' : Window) (kept kept' : Place → Bool) → IsWindow w → IsWindow w'
+    → (made : KeepsOrderByMessages w kept w' kept') → (events : HaveSameEvents w kept w' kept')
+    × (events.image ≡ made.image) × (events.origin ≡ made.origin)
+
+-- In a run with such messages no event happened before itself.
+abbrev pub MessagesMakeNoCycle : Type 0
+MessagesMakeNoCycle =
+    (w : Window) (c : Computation) (kept kept' : Place → Bool) → IsWindow w
+    → KeepsOrderByMessages w kept (whole c) kept' → HasNoCycle c

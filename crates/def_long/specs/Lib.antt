@@ -6,5 +6,6 @@ pub mod Boundaries
 pub mod Views
 pub mod Reductions
 pub mod Renamed
+pub mod MadeMessages
 pub mod Laws
 pub mod Examples

@@ -3,7 +3,7 @@
 #![tactic(auto)]
 
 ghost use Rattle.def_long.specs.Examples.{FirstIsBoundary, OrderIsKept, RelayIsReduced, SettingIsSeen};
-ghost use Rattle.def_long.specs.Laws.{AvoidingByParts, AvoidingOfReduction, BoundaryIsPassed, CutHasDownSet, CutOfReduction, DefinitelyByExtensions, DefinitelyByParts, DefinitelyInWhole, DefinitelyOfReduction, DefinitelyOfRun, DefinitelyOfSeen, DownSetHasCut, ExtensionHasWalk, OneTruth, PossiblyByDownSets, PossiblyByParts, PossiblyInWhole, PossiblyOfReduction, PossiblyOfRun, PossiblyOfSeen, RunIsWindow, SameViewsReduce, SeenAreASet, SeenDecide, WalkHasExtension};
+ghost use Rattle.def_long.specs.Laws.{AvoidingByParts, AvoidingOfReduction, BoundaryIsPassed, CutHasDownSet, CutOfReduction, DefinitelyByExtensions, DefinitelyByParts, DefinitelyInWhole, DefinitelyOfReduction, DefinitelyOfRun, DefinitelyOfSeen, DownSetHasCut, ExtensionHasWalk, MessagesKeepOrder, MessagesMakeNoCycle, OneTruth, PossiblyByDownSets, PossiblyByParts, PossiblyInWhole, PossiblyOfReduction, PossiblyOfRun, PossiblyOfSeen, RunIsWindow, SameViewsReduce, SeenAreASet, SeenDecide, WalkHasExtension};
 
 /// The whole run is a window, and has the answers of that window.
 pub fn whole_run()
@@ -69,6 +69,14 @@ pub fn reductions()
     ensures cut { CutOfReduction }
     ensures avoiding { AvoidingOfReduction }
     ensures views { SameViewsReduce }
+{}
+
+/// A run has the kept events in the same order if its messages lead from each of them to its neighbors, and order no
+/// others. So whoever makes it owes what is known of single events and messages, and nothing on the order in the whole
+/// of it.
+pub fn made_runs()
+    ensures order { MessagesKeepOrder }
+    ensures no_cycle { MessagesMakeNoCycle }
 {}
 
 /// The definitions, tried on a run of three processes in which the order comes by one of which the predicate sees
