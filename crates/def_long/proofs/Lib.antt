@@ -14,5 +14,7 @@ pub mod Reduced
 pub mod EventOrders
 pub mod MadeOrder
 pub mod RenamedViews
+pub mod MadeViews
 pub mod SeenSets
 pub mod Tried
+pub mod TriedMade

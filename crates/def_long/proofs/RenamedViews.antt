@@ -10,7 +10,7 @@ use Rattle.def_long.specs.Renamed.{HasTruthOf, HaveValuesOf, Names, SeesTheSameI
 use Rattle.def_long.specs.Windows.{window, IsCutIn}
 use Rattle.def_long.proofs.SameViews.{alone_value}
 
-renamed_alone : (names : Names) (p : ℕ) (sum : List (Sign × Term)) → NameAlone p sum
+pub renamed_alone : (names : Names) (p : ℕ) (sum : List (Sign × Term)) → NameAlone p sum
     → NameAlone (names.process p) (renamed_sum names sum)
 renamed_alone names p [] alone = tt
 renamed_alone names p ((sign, Number k) ∷ rest) alone = (tt, renamed_alone names p rest alone.1)

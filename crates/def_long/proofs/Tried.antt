@@ -16,7 +16,7 @@ use Rattle.def_long.proofs.WindowCuts.{in_whole}
 -- ---- which events there are
 
 -- one of the two events that set a variable
-setting_is : (e : Place) → IsTrue (setting e) → (e ≡ place 0 1) ⊎ (e ≡ place 2 2)
+pub setting_is : (e : Place) → IsTrue (setting e) → (e ≡ place 0 1) ⊎ (e ≡ place 2 2)
 setting_is e t = go (among_contains (place 0 1 ∷ place 2 2 ∷ []) e t)
   where
     go : Contains (place 0 1 ∷ place 2 2 ∷ []) e → (e ≡ place 0 1) ⊎ (e ≡ place 2 2)
@@ -57,7 +57,7 @@ relayed_receives (suc (suc zero)) (suc (suc (suc n))) id e = cc
 relayed_receives (suc (suc (suc p))) zero id e = cc
 relayed_receives (suc (suc (suc p))) (suc n) id e = cc
 
-one_sends : (p n : ℕ) (id : List ℕ) → kind_at one_message (place p n) ≡ Some (Send id) → p ≡ 0
+pub one_sends : (p n : ℕ) (id : List ℕ) → kind_at one_message (place p n) ≡ Some (Send id) → p ≡ 0
 one_sends zero n id e = refl
 one_sends (suc zero) zero id e = cc
 one_sends (suc zero) (suc zero) id e = cc
@@ -65,7 +65,7 @@ one_sends (suc zero) (suc (suc n)) id e = cc
 one_sends (suc (suc p)) zero id e = cc
 one_sends (suc (suc p)) (suc n) id e = cc
 
-one_receives : (p n : ℕ) (id : List ℕ) → kind_at one_message (place p n) ≡ Some (Receive id) → p ≡ 1
+pub one_receives : (p n : ℕ) (id : List ℕ) → kind_at one_message (place p n) ≡ Some (Receive id) → p ≡ 1
 one_receives zero zero id e = cc
 one_receives zero (suc zero) id e = cc
 one_receives zero (suc (suc n)) id e = cc
@@ -82,7 +82,7 @@ before_onward d e f (inr a) (inl b) = let same : d.process ≡ e.process = a.0 i
 before_onward d e f (inr a) (inr b) =
     let low : d.number < e.number = a.1 in let high : e.number < f.number = b.1 in inr (a.0 ∙ b.0, omega arith)
 
-relayed_before : (e f : Place) → HappenedBefore relayed e f → IsBefore e f
+pub relayed_before : (e f : Place) → HappenedBefore relayed e f → IsBefore e f
 relayed_before = happens_least relayed IsBefore step before_onward
   where
     message : (e f : Place) (id : List ℕ) → ((e.process ≡ 0) × (id ≡ 109 ∷ []))
@@ -115,7 +115,7 @@ not_before_itself e (inr (same, lt)) = omega arith
 
 -- ---- the order through the second process
 
-by_second : HappenedBefore relayed (place 0 1) (place 2 2)
+pub by_second : HappenedBefore relayed (place 0 1) (place 2 2)
 by_second = (
   place 1 1 ∷ place 1 2 ∷ place 2 1 ∷ [],
   (received, (goes_on, (relayed_on, (last, tt)))),
@@ -202,10 +202,10 @@ first_is_boundary = record {
 -- ---- the reduction
 
 -- the event of the same setting
-abbrev image : Place → Place
+abbrev pub image : Place → Place
 image e = place (cond (nat_eq e.process 0) 0 1) 1
 
-abbrev origin : Place → Place
+abbrev pub origin : Place → Place
 origin e = cond (nat_eq e.process 0) (place 0 1) (place 2 2)
 
 first_kept : IsKept (whole relayed) setting (place 0 1)
@@ -222,7 +222,7 @@ second_kept = record {
   before = (lit≤ tt, lit≤ tt);
 }
 
-send_kept : IsKept (whole one_message) (λ e. true) (place 0 1)
+pub send_kept : IsKept (whole one_message) (λ e. true) (place 0 1)
 send_kept = record {
   is_kept = refl;
   after = λ i. let h : 1 ≤ 0 = i.1 in omega arith;
@@ -244,7 +244,7 @@ send_or_receipt zero (suc (suc n)) low high = absurd (omega arith)
 send_or_receipt (suc zero) (suc (suc n)) low high = absurd (omega arith)
 send_or_receipt (suc (suc p)) (suc n) low high = absurd (omega arith)
 
-one_event : (e : Place) → IsKept (whole one_message) (λ e. true) e → (e ≡ place 0 1) ⊎ (e ≡ place 1 1)
+pub one_event : (e : Place) → IsKept (whole one_message) (λ e. true) e → (e ≡ place 0 1) ⊎ (e ≡ place 1 1)
 one_event e k = send_or_receipt e.process e.number k.before.0 k.before.1
 
 -- the truths at counts with the same settings
@@ -323,6 +323,25 @@ same_order e f is_e is_f = go is_e is_f
           λ h. absurd (not_before_itself (place 1 1) (one_before (place 1 1) (place 1 1) h)),
         ) a b
 
+pub image_kept : (e : Place) → (e ≡ place 0 1) ⊎ (e ≡ place 2 2)
+    → IsKept (whole one_message) (λ e. true) (image e)
+image_kept e (inl a) =
+    subst (λ (x : Place). IsKept (whole one_message) (λ e. true) (image x)) (sym a) send_kept
+image_kept e (inr a) =
+    subst (λ (x : Place). IsKept (whole one_message) (λ e. true) (image x)) (sym a) receipt_kept
+
+pub origin_kept : (e : Place) → (e ≡ place 0 1) ⊎ (e ≡ place 1 1) → IsKept (whole relayed) setting (origin e)
+origin_kept e (inl a) = subst (λ (x : Place). IsKept (whole relayed) setting (origin x)) (sym a) first_kept
+origin_kept e (inr a) = subst (λ (x : Place). IsKept (whole relayed) setting (origin x)) (sym a) second_kept
+
+pub origin_of_image : (e : Place) → (e ≡ place 0 1) ⊎ (e ≡ place 2 2) → origin (image e) ≡ e
+origin_of_image e (inl a) = ap (λ (x : Place). origin (image x)) a ∙ sym a
+origin_of_image e (inr a) = ap (λ (x : Place). origin (image x)) a ∙ sym a
+
+pub image_of_origin : (e : Place) → (e ≡ place 0 1) ⊎ (e ≡ place 1 1) → image (origin e) ≡ e
+image_of_origin e (inl a) = ap (λ (x : Place). image (origin x)) a ∙ sym a
+image_of_origin e (inr a) = ap (λ (x : Place). image (origin x)) a ∙ sym a
+
 pub relay_is_reduced : RelayIsReduced
 relay_is_reduced = record {
   events = record {
@@ -337,22 +356,3 @@ relay_is_reduced = record {
   same_truth = λ cut cut' in_w in' agree. same_truths cut cut' in_w.consistent in'.consistent
       (agree (place 0 1) first_kept) (agree (place 2 2) second_kept);
 }
-  where
-    image_kept : (e : Place) → (e ≡ place 0 1) ⊎ (e ≡ place 2 2)
-        → IsKept (whole one_message) (λ e. true) (image e)
-    image_kept e (inl a) =
-        subst (λ (x : Place). IsKept (whole one_message) (λ e. true) (image x)) (sym a) send_kept
-    image_kept e (inr a) =
-        subst (λ (x : Place). IsKept (whole one_message) (λ e. true) (image x)) (sym a) receipt_kept
-
-    origin_kept : (e : Place) → (e ≡ place 0 1) ⊎ (e ≡ place 1 1) → IsKept (whole relayed) setting (origin e)
-    origin_kept e (inl a) = subst (λ (x : Place). IsKept (whole relayed) setting (origin x)) (sym a) first_kept
-    origin_kept e (inr a) = subst (λ (x : Place). IsKept (whole relayed) setting (origin x)) (sym a) second_kept
-
-    origin_of_image : (e : Place) → (e ≡ place 0 1) ⊎ (e ≡ place 2 2) → origin (image e) ≡ e
-    origin_of_image e (inl a) = ap (λ (x : Place). origin (image x)) a ∙ sym a
-    origin_of_image e (inr a) = ap (λ (x : Place). origin (image x)) a ∙ sym a
-
-    image_of_origin : (e : Place) → (e ≡ place 0 1) ⊎ (e ≡ place 1 1) → image (origin e) ≡ e
-    image_of_origin e (inl a) = ap (λ (x : Place). image (origin x)) a ∙ sym a
-    image_of_origin e (inr a) = ap (λ (x : Place). image (origin x)) a ∙ sym a

@@ -15,6 +15,7 @@ use Rattle.def_long.specs.Views.{AreSeen, OthersAreUnseen}
 use Rattle.def_long.specs.Reductions.{HaveSameEvents, IsReduction}
 use Rattle.def_long.specs.Renamed.{AreEquallyFar, KeepProcesses, Names, SeesTheSameIn, renamed}
 use Rattle.def_long.specs.MadeMessages.{KeepsOrderByMessages}
+use Rattle.def_long.specs.MadeRuns.{IsMadeOf}
 
 -- A run in which no event happened before itself is a window, and has the answers of that window.
 abbrev pub RunIsWindow : Type 0
@@ -188,3 +189,25 @@ abbrev pub MessagesMakeNoCycle : Type 0
 MessagesMakeNoCycle =
     (w : Window) (c : Computation) (kept kept' : Place → Bool) → IsWindow w
     → KeepsOrderByMessages w kept (whole c) kept' → HasNoCycle c
+
+-- A recorded run that is made of a window is a reduction of it, and has its answers.
+abbrev pub MadeRunReduces : Type 0
+MadeRunReduces =
+    (r r' : Recorded) (from to : List ℕ) (kept kept' : Place → Bool) (predicate : Predicate) (names : Names)
+    → IsWindow (window r.events from to) → IsMadeOf r from to kept predicate r' kept' names
+    → IsReduction (window r.events from to) kept (test_of r predicate) (whole r'.events) kept'
+    (test_of r' (renamed names predicate))
+
+abbrev pub PossiblyOfMadeRun : Type 0
+PossiblyOfMadeRun =
+    (r r' : Recorded) (from to : List ℕ) (kept kept' : Place → Bool) (predicate : Predicate) (names : Names)
+    → IsWindow (window r.events from to) → IsMadeOf r from to kept predicate r' kept' names
+    → PossiblyIn (window r.events from to) (test_of r predicate)
+    ↔ Possibly r'.events (test_of r' (renamed names predicate))
+
+abbrev pub DefinitelyOfMadeRun : Type 0
+DefinitelyOfMadeRun =
+    (r r' : Recorded) (from to : List ℕ) (kept kept' : Place → Bool) (predicate : Predicate) (names : Names)
+    → IsWindow (window r.events from to) → IsMadeOf r from to kept predicate r' kept' names
+    → DefinitelyIn (window r.events from to) (test_of r predicate)
+    ↔ Definitely r'.events (test_of r' (renamed names predicate))

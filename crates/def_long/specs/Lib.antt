@@ -7,5 +7,6 @@ pub mod Views
 pub mod Reductions
 pub mod Renamed
 pub mod MadeMessages
+pub mod MadeRuns
 pub mod Laws
 pub mod Examples

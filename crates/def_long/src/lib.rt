@@ -2,8 +2,8 @@
 //! The definitions stand in `specs/`; each function here has no code, and its contract is a law that holds of them.
 #![tactic(auto)]
 
-ghost use Rattle.def_long.specs.Examples.{FirstIsBoundary, OrderIsKept, RelayIsReduced, SettingIsSeen};
-ghost use Rattle.def_long.specs.Laws.{AvoidingByParts, AvoidingOfReduction, BoundaryIsPassed, CutHasDownSet, CutOfReduction, DefinitelyByExtensions, DefinitelyByParts, DefinitelyInWhole, DefinitelyOfReduction, DefinitelyOfRun, DefinitelyOfSeen, DownSetHasCut, ExtensionHasWalk, MessagesKeepOrder, MessagesMakeNoCycle, OneTruth, PossiblyByDownSets, PossiblyByParts, PossiblyInWhole, PossiblyOfReduction, PossiblyOfRun, PossiblyOfSeen, RunIsWindow, SameViewsReduce, SeenAreASet, SeenDecide, WalkHasExtension};
+ghost use Rattle.def_long.specs.Examples.{FirstIsBoundary, OrderIsKept, RelayIsMade, RelayIsReduced, SettingIsSeen};
+ghost use Rattle.def_long.specs.Laws.{AvoidingByParts, AvoidingOfReduction, BoundaryIsPassed, CutHasDownSet, CutOfReduction, DefinitelyByExtensions, DefinitelyByParts, DefinitelyInWhole, DefinitelyOfMadeRun, DefinitelyOfReduction, DefinitelyOfRun, DefinitelyOfSeen, DownSetHasCut, ExtensionHasWalk, MadeRunReduces, MessagesKeepOrder, MessagesMakeNoCycle, OneTruth, PossiblyByDownSets, PossiblyByParts, PossiblyInWhole, PossiblyOfMadeRun, PossiblyOfReduction, PossiblyOfRun, PossiblyOfSeen, RunIsWindow, SameViewsReduce, SeenAreASet, SeenDecide, WalkHasExtension};
 
 /// The whole run is a window, and has the answers of that window.
 pub fn whole_run()
@@ -71,12 +71,15 @@ pub fn reductions()
     ensures views { SameViewsReduce }
 {}
 
-/// A run has the kept events in the same order if its messages lead from each of them to its neighbors, and order no
-/// others. So whoever makes it owes what is known of single events and messages, and nothing on the order in the whole
-/// of it.
+/// A run is a reduction if its messages lead from each kept event to its neighbors, and order no others, and if the
+/// predicate sees the same at the beginning and after each kept event. So whoever makes it owes what is known of single
+/// events, processes and messages, and nothing on the order in the whole of it.
 pub fn made_runs()
     ensures order { MessagesKeepOrder }
     ensures no_cycle { MessagesMakeNoCycle }
+    ensures reduce { MadeRunReduces }
+    ensures possibly { PossiblyOfMadeRun }
+    ensures definitely { DefinitelyOfMadeRun }
 {}
 
 /// The definitions, tried on a run of three processes in which the order comes by one of which the predicate sees
@@ -86,4 +89,5 @@ pub fn examples()
     ensures order { OrderIsKept }
     ensures boundary { FirstIsBoundary }
     ensures reduced { RelayIsReduced }
+    ensures made { RelayIsMade }
 {}
