@@ -9,6 +9,7 @@ import sys
 from unittest import mock
 
 import monitor_reduce
+import reduce_facts
 from judging import FOLDER
 
 sys.path.insert(0, os.path.join(FOLDER, "..", "..", "cases"))
@@ -229,21 +230,24 @@ class Whole:
                            for name, tree in session.predicates}
         self.answers = {name: answers_of(session, self.cuts, tree) for name, tree in session.predicates}
 
-    def seen(self, names):
-        """The events that these predicates see, as places, by the definition: those that change the truth of a
-        comparison which names their process alone, or the value of a variable in another one."""
-        compared = [it for name, tree in self.session.predicates if name in names for it in drawn.comparisons(tree)]
+    def view(self, process, count, names):
+        """What these predicates see of a process after so many of its events: the truth of each comparison that names
+        it alone, and the values of its variables in the others."""
+        cut = tuple(count if it == process else 0 for it in range(len(self.session.names)))
+        seen = []
+        for comparison in (it for name, tree in self.session.predicates if name in names
+                           for it in drawn.comparisons(tree)):
+            if drawn.named_by(comparison) == {process}:
+                seen.append(drawn.holds(self.session, cut, comparison))
+            else:
+                seen += [self.session.value_at(process, count, reference[1]) for terms in comparison[1:]
+                         for _, _, reference in terms if reference and reference[0] == process]
+        return seen
 
-        def view(process, count):
-            cut = tuple(count if it == process else 0 for it in range(len(self.session.names)))
-            for comparison in compared:
-                if drawn.named_by(comparison) == {process}:
-                    yield drawn.holds(self.session, cut, comparison)
-                else:
-                    yield from (self.session.value_at(process, count, reference[1]) for terms in comparison[1:]
-                                for _, _, reference in terms if reference and reference[0] == process)
+    def seen(self, names):
+        """The events that these predicates see, as places, by the definition: those that change the view."""
         return [place for place in self.session.places
-                if list(view(place[0], place[1] - 1)) != list(view(*place))]
+                if self.view(place[0], place[1] - 1, names) != self.view(*place, names)]
 
     def boundaries(self, names):
         """How many sets of seen events there are of which each happened before each seen event that isn't in it, but
@@ -268,7 +272,8 @@ class Whole:
 
 def compare(whole, folders, names):
     """Compares a run with the sessions in these folders, which are its windows, as to these predicates: the answers;
-    the events that are seen, and their order; and that a satisfying cut of a window is one of the run."""
+    the facts by which they have these; the events that are seen, and their order; and that a satisfying cut of a window
+    is one of the run."""
     made = [(Whole(session), rows) for session, rows in (read(folder, whole.session) for folder in folders)]
     for name in names:
         joined = tuple(any(window.answers[name][question] for window, _ in made) for question in (0, 1))
@@ -277,6 +282,8 @@ def compare(whole, folders, names):
     places = {}
     for number, (window, rows) in enumerate(made):
         compare_cuts(whole, window, rows, names)
+        for fault in reduce_facts.faults(whole, window, rows, names):
+            raise Differs(fault)
         for process, count in window.session.places:
             row = rows[window.session.names[process], count]
             if row["seen"]:

@@ -157,6 +157,18 @@ def receive_late(real):
     return lines_of
 
 
+def send_to_last(real):
+    """Has the first event of each process send to the last one of each other one, whether it happened before or not."""
+    def causes(self, kept):
+        found = list(real(self, kept))
+        for other, events in enumerate(self.events):
+            cause = other, self.begin[other] + 1
+            if events and found and other != kept and all(cause not in it for it in found):
+                found[-1] = [*found[-1], cause]
+        return iter(found)
+    return causes
+
+
 # What is planted: where, and what is made of what stands there.
 PLANTS = {
     "an event that is seen is dropped": (monitor_reduce.Reduction, "see", skip_some),
@@ -167,6 +179,7 @@ PLANTS = {
     "a window begins with the values of the run's start": (long_sessions.Writer, "document_of", begin_at_first),
     "one of several causes is left out": (
         long_sessions.Window, "causes", lambda real: lambda self, kept: (it[:1] for it in real(self, kept))),
+    "a message orders what has no order": (long_sessions.Window, "causes", send_to_last),
     "a receipt comes after the event that needs it": (long_sessions.Writer, "lines_of", receive_late),
     "only the first comparison is looked at": (
         monitor_reduce, "view_of", lambda real: lambda process, comparisons: (
