@@ -15,6 +15,7 @@ pub mod EventOrders
 pub mod MadeOrder
 pub mod RenamedViews
 pub mod MadeViews
+pub mod MadeWindows
 pub mod SeenSets
 pub mod Tried
 pub mod TriedMade

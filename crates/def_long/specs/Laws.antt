@@ -1,10 +1,10 @@
 -- The laws of long runs, each stated for every run, of any number of processes and events. `test` says whether a cut
 -- satisfies, and `kept` whether the event at a place is kept.
-use Rattle.std.specs.Prelude.{◌≡◌, ◌↔◌, ◌⊎◌, ℕ, Bool, List, Contains, All}
+use Rattle.std.specs.Prelude.{◌≡◌, ◌↔◌, ◌⊎◌, ℕ, Bool, List, [], ◌∷◌, ◌++◌, Contains, All}
 use Rattle.def_model.specs.Events.{Computation, Place, Linked}
 use Rattle.def_model.specs.Order.{HasNoCycle}
 use Rattle.def_model.specs.Lattice.{IsWithin}
-use Rattle.def_model.specs.Cuts.{Includes}
+use Rattle.def_model.specs.Cuts.{Includes, empty_cut, full_cut}
 use Rattle.def_model.specs.Observations.{IsWalk, HasNoSatisfying, Possibly, Definitely}
 use Rattle.def_model.specs.Predicates.{Predicate, Recorded, test_of}
 use Rattle.def_long.specs.Windows.{Window, window, whole, IsWindow, IsCutIn, PossiblyIn, DefinitelyIn}
@@ -15,7 +15,7 @@ use Rattle.def_long.specs.Views.{AreSeen, OthersAreUnseen}
 use Rattle.def_long.specs.Reductions.{HaveSameEvents, IsReduction}
 use Rattle.def_long.specs.Renamed.{AreEquallyFar, KeepProcesses, Names, SeesTheSameIn, renamed}
 use Rattle.def_long.specs.MadeMessages.{KeepsOrderByMessages}
-use Rattle.def_long.specs.MadeRuns.{IsMadeOf}
+use Rattle.def_long.specs.MadeRuns.{AreMadeOf, IsMadeOf, MadeRun, made_test}
 
 -- A run in which no event happened before itself is a window, and has the answers of that window.
 abbrev pub RunIsWindow : Type 0
@@ -211,3 +211,22 @@ DefinitelyOfMadeRun =
     → IsWindow (window r.events from to) → IsMadeOf r from to kept predicate r' kept' names
     → DefinitelyIn (window r.events from to) (test_of r predicate)
     ↔ Definitely r'.events (test_of r' (renamed names predicate))
+
+-- If a run is made of each window between boundaries, the run has an answer exactly if one of these has it.
+abbrev pub PossiblyOfMadeRuns : Type 0
+PossiblyOfMadeRuns =
+    (r : Recorded) → HasNoCycle r.events → (kept : Place → Bool) (predicate : Predicate)
+    (boundaries : List (List ℕ)) (runs : List MadeRun) → All (IsBoundary (whole r.events) kept) boundaries
+    → Linked IsWithin boundaries
+    → AreMadeOf r kept predicate (empty_cut r.events ∷ boundaries ++ full_cut r.events ∷ []) runs
+    → Possibly r.events (test_of r predicate)
+    ↔ ((run : MadeRun) × Contains runs run × Possibly run.recorded.events (made_test predicate run))
+
+abbrev pub DefinitelyOfMadeRuns : Type 0
+DefinitelyOfMadeRuns =
+    (r : Recorded) → HasNoCycle r.events → (kept : Place → Bool) (predicate : Predicate)
+    (boundaries : List (List ℕ)) (runs : List MadeRun) → All (IsBoundary (whole r.events) kept) boundaries
+    → Linked IsWithin boundaries
+    → AreMadeOf r kept predicate (empty_cut r.events ∷ boundaries ++ full_cut r.events ∷ []) runs
+    → Definitely r.events (test_of r predicate)
+    ↔ ((run : MadeRun) × Contains runs run × Definitely run.recorded.events (made_test predicate run))

@@ -3,7 +3,7 @@
 #![tactic(auto)]
 
 ghost use Rattle.def_long.specs.Examples.{FirstIsBoundary, OrderIsKept, RelayIsMade, RelayIsReduced, SettingIsSeen};
-ghost use Rattle.def_long.specs.Laws.{AvoidingByParts, AvoidingOfReduction, BoundaryIsPassed, CutHasDownSet, CutOfReduction, DefinitelyByExtensions, DefinitelyByParts, DefinitelyInWhole, DefinitelyOfMadeRun, DefinitelyOfReduction, DefinitelyOfRun, DefinitelyOfSeen, DownSetHasCut, ExtensionHasWalk, MadeRunReduces, MessagesKeepOrder, MessagesMakeNoCycle, OneTruth, PossiblyByDownSets, PossiblyByParts, PossiblyInWhole, PossiblyOfMadeRun, PossiblyOfReduction, PossiblyOfRun, PossiblyOfSeen, RunIsWindow, SameViewsReduce, SeenAreASet, SeenDecide, WalkHasExtension};
+ghost use Rattle.def_long.specs.Laws.{AvoidingByParts, AvoidingOfReduction, BoundaryIsPassed, CutHasDownSet, CutOfReduction, DefinitelyByExtensions, DefinitelyByParts, DefinitelyInWhole, DefinitelyOfMadeRun, DefinitelyOfMadeRuns, DefinitelyOfReduction, DefinitelyOfRun, DefinitelyOfSeen, DownSetHasCut, ExtensionHasWalk, MadeRunReduces, MessagesKeepOrder, MessagesMakeNoCycle, OneTruth, PossiblyByDownSets, PossiblyByParts, PossiblyInWhole, PossiblyOfMadeRun, PossiblyOfMadeRuns, PossiblyOfReduction, PossiblyOfRun, PossiblyOfSeen, RunIsWindow, SameViewsReduce, SeenAreASet, SeenDecide, WalkHasExtension};
 
 /// The whole run is a window, and has the answers of that window.
 pub fn whole_run()
@@ -80,6 +80,12 @@ pub fn made_runs()
     ensures reduce { MadeRunReduces }
     ensures possibly { PossiblyOfMadeRun }
     ensures definitely { DefinitelyOfMadeRun }
+{}
+
+/// A run of whose windows runs are made has an answer exactly if one of these has it.
+pub fn made_windows()
+    ensures possibly { PossiblyOfMadeRuns }
+    ensures definitely { DefinitelyOfMadeRuns }
 {}
 
 /// The definitions, tried on a run of three processes in which the order comes by one of which the predicate sees
