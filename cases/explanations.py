@@ -381,6 +381,7 @@ def bundles():
                                                          B + '{"recv":"m1"}\n{"send":"m2"}\n' + END))
     yield Case("an answer about a bundle is unknown", input=bundle(*wide().files.values()))
     yield Case("a bundle that is too long", input=b" " * 67_108_865)
+    yield Case("bundles in place of lines", words=("batch",), input=bundle(document(), EARLY))
 
 
 def faults():

@@ -16,7 +16,7 @@ fn put_batch<Y: System>(
         Ok(Conclusion::SomeFails | Conclusion::SomeNotJudged) => out.say(
             "What to do: look at the lines whose `status` isn't 0, or that have an `error`. `monitor merge` names \
 their sessions, and `monitor judge --explain --beyond-width RUN/session.json RUN/*.stream` explains the run in a \
-folder.\n",
+folder. Bundles with a line === between each two are read by `monitor batch --bundles`.\n",
         ),
         Err(fault) => put_fault(out, world, None, "", &[], fault),
     }
