@@ -1,0 +1,4 @@
+-- Orders of runs.
+pub mod Orders
+pub mod Laws
+pub mod Examples
