@@ -1,0 +1,7 @@
+-- The modules of lemmas of this crate.
+pub mod Places
+pub mod Growing
+pub mod Keeping
+pub mod Ranking
+pub mod Rows
+pub mod Sameness

@@ -1,0 +1,6 @@
+-- The modules of definitions of this crate.
+pub mod Lists
+pub mod Growth
+pub mod KeptEvents
+pub mod Ranked
+pub mod OrderViews
