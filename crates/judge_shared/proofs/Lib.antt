@@ -1,0 +1,8 @@
+-- The modules of lemmas of this crate.
+pub mod FreshTruths
+pub mod KnownTruths
+pub mod RunFacts
+pub mod RunInputs
+pub mod SharedAnswers
+pub mod TrialOutcomes
+pub mod TrialSteps

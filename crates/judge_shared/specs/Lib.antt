@@ -1,0 +1,4 @@
+-- The modules of definitions of this crate.
+pub mod SharedReports
+pub mod Sharing
+pub mod Trials
