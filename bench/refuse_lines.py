@@ -138,7 +138,8 @@ def is_bundled(ended, want):
 
 
 def is_tested(ended, want):
-    """Whether the line of one run says that a file of it isn't read, and the rest and the status are as it says."""
+    """Whether the line of one run says that a file of it isn't read, and the rest and the status are as it says. Runs
+    of one name have one order, and those of others have others."""
     count = want[1].splitlines().index(next(line for line in want[1].splitlines() if line.startswith(b"runs: ")))
     lines, wanted = ended[1].splitlines()[:count], want[1].splitlines()[:count]
     others = [(line, due) for line, due in zip(lines, wanted) if line != due]
@@ -148,9 +149,11 @@ def is_tested(ended, want):
     if not UNTESTED.fullmatch(text) or not others[0][1].startswith(name + b": "):
         return False
     texts = [line.partition(b": ")[2] for line in lines]
+    judged = {line.partition(b": ")[0] for line in lines if line.partition(b": ")[2].startswith((b"pass", b"fail: "))}
     passed, failed = texts.count(b"pass"), sum(text.startswith(b"fail: ") for text in texts)
     due = [line + b"\n" for line in lines] + [COUNTS % (count, passed, failed, count - passed - failed)]
     due += [b"  " + line + b"\n" for line in lines if not line.endswith(b": pass")][:5]
+    due += [b"orders: %d\n" % len(judged)]
     status = 5 if failed else 0 if passed == count else 1
     return (ended[0], ended[2]) == (status, b"") and ended[1] == b"".join(due)
 

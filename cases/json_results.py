@@ -55,7 +55,8 @@ def text_of(found):
     failing = [line for line, run in zip(lines, found["runs"]) if run["outcome"] != "pass"]
     lines.append(f"runs: {counts['all']}, pass: {counts['pass']}, fail: {counts['fail']}, "
                  f"not judged: {counts['not_judged']}")
-    return "\n".join(lines + ["  " + line for line in failing[:5]]) + "\n"
+    orders = [f"orders: {found['orders']}"] if found["orders"] is not None else []
+    return "\n".join(lines + ["  " + line for line in failing[:5]] + orders) + "\n"
 
 
 def tested(program, folder, wishes):
@@ -126,6 +127,7 @@ def faults_in(found):
     yield {**found, "more": 1}
     yield {**found, "outcome": "unknown"}
     yield {**found, "counts": {**found["counts"], "all": -1}}
+    yield from ({**found, "orders": orders} for orders in (-1, 1.5, "1", [1]))
     for place, run in enumerate(found["runs"]):
         for fault in ({**run, "more": 1}, {**run, "outcome": "unknown"}, {"outcome": run["outcome"]}):
             yield {**found, "runs": [*found["runs"][:place], fault, *found["runs"][place + 1:]]}

@@ -3,12 +3,15 @@
 
     python3 monitor_summary.py PART..     # or all parts, one after the other, on the standard input
 
-The runs keep their order. The status is that of one call; it is 2, and nothing is written, if a part is cut short."""
+The runs keep their order. One line is left out, that of how many orders the runs have: the parts don't say it.
+The status is that of one call; it is 2, and nothing is written, if a part is cut short."""
 import fileinput
 import re
 import sys
 
 NUMBERS = re.compile(rb"runs: (\d+), pass: (\d+), fail: (\d+), not judged: (\d+)\n")
+# What stands at the end of a part. No line of a run is such a line.
+ORDERS = re.compile(rb"orders: \d+\n")
 
 
 def again(runs):
@@ -18,9 +21,11 @@ def again(runs):
 
 def joined(lines):
     """The lines of the runs of all parts, and the four numbers, added up. A ValueError says which part is cut short."""
-    runs, sums, begin, lines = [], [0, 0, 0, 0], 0, iter(lines)
+    runs, sums, begin, last, lines = [], [0, 0, 0, 0], 0, None, iter(lines)
     for line in lines:
-        if not (last := NUMBERS.fullmatch(line)):
+        if last and ORDERS.fullmatch(line):
+            last = None
+        elif not (last := NUMBERS.fullmatch(line)):
             runs.append(line)
         elif int(last[1]) != len(runs) - begin or any(next(lines, b"") != shown for shown in again(runs[begin:])):
             raise ValueError(f"the part that begins with run {begin + 1} is cut short")

@@ -13,6 +13,7 @@ from judging import FOLDER
 SCRIPT = os.path.join(FOLDER, "monitor_summary.py")
 VERDICTS = ["pass", "pass", "pass", "fail: both possibly yes", "refused stream 1 line 3 unended", "unnamed both",
             "unread x/session.json"]
+ORDERS = b"orders: 3\n"
 EMPTY = (b"runs: 0, pass: 0, fail: 0, not judged: 0\n", 0)
 
 
@@ -70,6 +71,14 @@ class Joining(unittest.TestCase):
     def test_each_status(self):
         for texts, status in ((["pass"], 0), (["pass", "unnamed x"], 1), (["unnamed x", "fail: x possibly no"], 5)):
             self.assertEqual(joined(*(tested([("run", text)]) for text in texts))[1], status)
+
+    def test_how_many_orders_a_part_has_is_left_out(self):
+        runs = drawn(12, 4)
+        (one, _), (two, _) = tested(runs[:7]), tested(runs[7:])
+        for parts in ([one + ORDERS, two + ORDERS], [one, two + ORDERS], [one + ORDERS, two]):
+            self.assertEqual(joined(*((part, 0) for part in parts)), tested(runs))
+        for wrong in (ORDERS + one, one + ORDERS + ORDERS, one[:one.index(b"\n") + 1] + ORDERS):
+            self.assertEqual(joined((wrong, 0)), (b"", 2))
 
     def test_a_part_that_is_cut_short_is_refused(self):
         whole, lines = tested(drawn(9, 3))[0], tested(drawn(9, 3))[0].splitlines(keepends=True)

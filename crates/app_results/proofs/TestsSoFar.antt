@@ -13,7 +13,7 @@ use Rattle.app_test.specs.TestedRuns.{AreRecords, AreTested, EndsTest, IsConclud
 use Rattle.app_test.specs.Tests.{IsRunIn, TestLeaves, is_json, test_ending}
 use Rattle.app_test.specs.declared.records.Records.{Records}
 use Rattle.app_test.proofs.WrittenTests.{LeavesPart, broken_by, cut_after, cut_more, ended, none_tested, tested_on}
-use Rattle.judge_results.specs.Results.{junit_text, results_json}
+use Rattle.judge_results.specs.Results.{junit_text}
 use Rattle.judge_results.specs.ResultsSoFar.{AreResults, AreTexts}
 use Rattle.judge_results.specs.declared.results.Texts.{Texts}
 use Rattle.judge_results.specs.declared.results.Wanted.{Wanted}
@@ -23,7 +23,7 @@ use Rattle.judge_runs.specs.Wishes.{Condition}
 use Rattle.judge_runs.specs.declared.conclusion.Conclusion.{Conclusion}
 use Rattle.judge_runs.specs.declared.tally.Counts.{Counts}
 use Rattle.judge_session.specs.declared.fault.EngineFault.{EngineFault}
-use Rattle.app_results.specs.ResultFiles.{AreRecordsOf, IsTextOfRuns}
+use Rattle.app_results.specs.ResultFiles.{AreRecordsOf, IsJsonOfRuns, IsTextOfRuns}
 
 -- the folders after some of the next ones
 pub names_next : (all lent some : List (Bor (List ℕ))) (from : ℕ) → lent ≡ all
@@ -110,31 +110,33 @@ module _ (files : List ℕ → File) (options : Options) (wishes : List Conditio
       stand = all.tested.stands;
     }
 
-    pub all_ended : (new : Option (List ℕ)) (result : Result Conclusion EngineFault)
+    pub all_ended : (new : Option (List ℕ)) (orders : Option ℕ) (result : Result Conclusion EngineFault)
         → ((runs : List Run) → AreRecords wanted wishes runs records
-        → IsConcluded format wishes runs result middle new)
+        → IsConcluded format wishes runs orders result middle new)
         → IfErr result EndsTest → TestLeaves files options wishes format folders (test_ending result) old new
-    all_ended new result go ends =
+    all_ended new orders result go ends =
         subst (λ (fs : List (List ℕ)). TestLeaves files options wishes format fs (test_ending result) old new)
         all_done
-        (ended files options wishes format all.done old new wanted records middle all.tested result
+        (ended files options wishes format all.done old new wanted records middle all.tested orders result
         (go all.tested.runs all.tested.stands) ends)
 
 -- ---- the results of all runs
 
 module _ (files : List ℕ → File) (options : Options) (wishes : List Condition) (wanted : Wanted)
-    (folders : List (List ℕ)) (records : Records) (counts : Counts) (texts : Texts)
+    (folders : List (List ℕ)) (records : Records) (counts : Counts) (orders : Option ℕ) (texts : Texts)
     (are_counts : (asked : List Condition) (runs : List Run) → Stands asked runs records.tally
     → AreCounts asked runs counts)
     (are_texts : (some : Wanted) (asked : List Condition) (runs : List Run) → AreResults some asked runs records.results
-    → AreCounts asked runs counts → AreTexts some asked runs texts) where
-  pub texts_of : (runs : List Run) → AreRecords wanted wishes runs records → AreTexts wanted wishes runs texts
+    → AreCounts asked runs counts → AreTexts some asked runs orders texts) where
+  pub texts_of : (runs : List Run) → AreRecords wanted wishes runs records → AreTexts wanted wishes runs orders texts
   texts_of runs are = are_texts wanted wishes runs are.results (are_counts wishes runs are.tally)
 
   pub json_of_all : AreRecordsOf files options wishes wanted folders records → wanted.json ≡ true
-      → IsTextOfRuns files options wishes folders (results_json wishes) texts.json.items
-  json_of_all all is =
-      record { runs = all.runs; are_runs = all.are_runs; is_text = (texts_of all.runs all.stand).json is }
+      → IsJsonOfRuns files options wishes folders texts.json.items
+  json_of_all all is = (
+    orders,
+    record { runs = all.runs; are_runs = all.are_runs; is_text = (texts_of all.runs all.stand).json is },
+  )
 
   pub junit_of_all : AreRecordsOf files options wishes wanted folders records → wanted.junit ≡ true
       → IsTextOfRuns files options wishes folders (junit_text wishes) texts.junit.items

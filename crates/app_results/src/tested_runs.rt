@@ -9,7 +9,7 @@ use super::pages::{Pages, add_pages};
 use super::result_files::{ResultFiles, save_results};
 use app_arguments::Test;
 use app_host::{System, World};
-use app_test::{Records, conclude, test_some};
+use app_test::{Records, Tested, conclude, test_some};
 use judge_runs::Conclusion;
 use judge_session::EngineFault;
 use pd_engine::Gate;
@@ -44,18 +44,27 @@ fn test_all<'a, Y: System, G: Gate + Sync, O: Write>(
         (wishes_view test.now.wishes.items) (format_view test.now.format) (names_view test.now.runs.items)
         (test_ending result) (O.contents output.old) (O.contents output.new) }
 {
-    let mut records = Records::new(world.alloc, test);
+    let mut tested = Tested::new(world.alloc, test);
     let mut from = 0;
     while from < test.runs.len() {
         let runs = runs_from(&test.runs, from, test.jobs.count());
-        let failing = test_some(world, test, runs, gate, &mut records, output)?;
+        let failing = test_some(world, test, runs, gate, &mut tested, output)?;
         add_pages(world, &failing, test, gate, pages)?;
         from += runs.len();
     }
+    let Tested { records, orders } = tested;
     let Records { tally, results } = records;
-    let texts = results.texts(world.alloc, tally.counts())?;
+    let different = orders.count();
+    let texts = results.texts(world.alloc, tally.counts(), different)?;
     save_results(world, test, &texts, files);
-    conclude(world.alloc, &tally, test.format, &texts.json, output)
+    conclude(
+        world.alloc,
+        &tally,
+        test.format,
+        &texts.json,
+        different,
+        output,
+    )
 }
 
 /// Whether pages and files of results can be written, as far as it can be told before a run is judged: the files can be
@@ -75,8 +84,8 @@ fn are_whole(pages: &Pages<'_>, files: &ResultFiles<'_>) -> bool {
 
 /// Tests these recorded runs, in their order, some side by side: writes the line of each as soon as those are judged,
 /// and the pages of those that fail, if they are wanted; then the files of results that are wanted; then the numbers of
-/// all runs and the first lines of those that don't pass. As JSON it writes one object at the end, and no lines. The
-/// output is flushed after each line and at the end. It gives what the runs come to.
+/// all runs, the first lines of those that don't pass, and how many orders the runs have. As JSON it writes one object
+/// at the end, and no lines. The output is flushed after each line and at the end. It gives what the runs come to.
 ///
 /// # Errors
 /// `Memory` leaves the lines of the first runs written. `Write` leaves a part of the text written, or all of it if only

@@ -13,7 +13,8 @@ use Rattle.judge_runs.specs.Wishes.{Condition, first_unnamed, names_of}
 use Rattle.judge_runs.specs.declared.outcome.Outcome as outcomes
 use Rattle.judge_session.specs.declared.fault.EngineFault.{EngineFault}
 use Rattle.judge_session.specs.declared.fault.EngineFault.TheVariants.{Read}
-use Rattle.pd_engine.specs.SessionReports.{IsTrueReportOfInputs}
+use Rattle.def_judgement.specs.Judgements.{RawStream}
+use Rattle.judge_shared.specs.SharedReports.{IsRunReport, IsRunReportOfInputs}
 use Rattle.app_host.specs.FileSources.{IsReadOf, Knows}
 use Rattle.app_host.proofs.DocumentPrefixes.{same_document, same_judgement, same_refusal, same_truth}
 use Rattle.app_host.proofs.FilesRead.{given_as_files, of_document}
@@ -31,6 +32,28 @@ whole_document : (options : Options) (file : File) (read : List ℕ) → IsReadO
     → OfDocument options file (HasOutlineOf options read)
 whole_document options file read is =
     of_document options file read (Unit {0}) (HasOutlineOf options read) is (λ document same _. same) tt
+
+-- so is the report of a run
+same_run_report : (options : Options) (read bytes : List ℕ) (streams : List RawStream) (report : Report)
+    → HasOutlineOf options read (inquiry_of options bytes) → IsRunReport (inquiry_of options read) streams report
+    → IsRunReport (inquiry_of options bytes) streams report
+same_run_report options read bytes streams report same (inl own) =
+    inl (
+      same_judgement options read bytes streams report same own.0,
+      same_truth options read bytes streams report same own.1,
+    )
+same_run_report options read bytes streams report same (inr (document, traces, holds, shared)) =
+    inr (
+      document,
+      traces,
+      record {
+        read = same_document options read bytes document same holds.read;
+        results = holds.results;
+        are_results = holds.are_results;
+        joined = holds.joined;
+      },
+      shared,
+    )
 
 -- what comes of a run by the bytes that were read comes of it by all bytes
 moved : (files : List ℕ → File) (options : Options) (wishes : List Condition) (folder read bytes : List ℕ)
@@ -58,8 +81,7 @@ moved files options wishes folder read bytes same (Reported report) found = reco
   given = record {
     streams = found.given.streams;
     are_given = found.given.are_given;
-    right = same_judgement options read bytes found.given.streams report same found.given.right;
-    truth = same_truth options read bytes found.given.streams report same found.given.truth;
+    is_report = same_run_report options read bytes found.given.streams report same found.given.is_report;
   };
 }
 
@@ -102,7 +124,7 @@ report_of_document : (files : List ℕ → File) (wishes : List Condition) (fold
     (document : Document) (lefts : List Source) (report : Report) → OneDocument → DocumentNotRefused
     → IsDocument inquiry document → first_unnamed (names_of document.predicates) wishes ≡ None
     → AllZip Knows (sources_of (map files (streams_in folder document.names))) lefts
-    → IsTrueReportOfInputs inquiry lefts report → IsReportOfInquiry files wishes folder inquiry report
+    → IsRunReportOfInputs inquiry lefts report → IsReportOfInquiry files wishes folder inquiry report
 report_of_document files wishes folder inquiry document lefts report one not_refused is named known given = record {
   inputs = sources_of (map files (streams_in folder document.names));
   of_document = λ other is_other.
@@ -114,8 +136,7 @@ report_of_document files wishes folder inquiry document lefts report one not_ref
   given = record {
     streams = given.streams;
     are_given = given_as_files _ lefts given.streams known given.are_given;
-    right = given.right;
-    truth = given.truth;
+    is_report = given.is_report;
   };
 }
 
@@ -123,13 +144,13 @@ report_of_document files wishes folder inquiry document lefts report one not_ref
 report_of_refused : {F : Type 0} (files : List ℕ → File) (wishes : List Condition) (folder : List ℕ)
     (inquiry : Inquiry) (fault : DocumentFault) (left : F → Source) (streams : List F) (report : Report)
     → DocumentNotRefused → IsRefusedDocument inquiry fault → streams ≡ []
-    → IsTrueReportOfInputs inquiry (map left streams) report
+    → IsRunReportOfInputs inquiry (map left streams) report
     → IsReportOfInquiry files wishes folder inquiry report
 report_of_refused files wishes folder inquiry fault left streams report not_refused refused none given = record {
   inputs = [];
   of_document = λ document is. absurd (not_refused inquiry document fault is refused);
   of_refused = λ other _. refl;
-  given = subst (λ items. IsTrueReportOfInputs inquiry (map left items) report) none given;
+  given = subst (λ items. IsRunReportOfInputs inquiry (map left items) report) none given;
 }
 
 -- ---- what is left to do
@@ -140,7 +161,7 @@ module _ {F : Type 0} (files : List ℕ → File) (options : Options) (wishes : 
   pub refused_is_read : (fault : DocumentFault) → DocumentNotRefused
       → IsRefusedDocument (inquiry_of options bytes) fault → streams ≡ [] → (outcome : Outcome)
       → (report : Report) × (outcome ≡ Reported report)
-      × IsTrueReportOfInputs (inquiry_of options bytes) (map left streams) report
+      × IsRunReportOfInputs (inquiry_of options bytes) (map left streams) report
       → IsReadOutcome files wishes folder (inquiry_of options bytes) outcome
   refused_is_read fault not_refused refused none outcome given =
       subst (λ (o : Outcome). IsReadOutcome files wishes folder (inquiry_of options bytes) o) (sym given.1)
@@ -153,7 +174,7 @@ module _ {F : Type 0} (files : List ℕ → File) (options : Options) (wishes : 
       → first_unnamed (names_of document.predicates) wishes ≡ None
       → AllZip Knows (sources_of (map files (streams_in folder document.names))) (map left streams)
       → (outcome : Outcome) → (report : Report) × (outcome ≡ Reported report)
-      × IsTrueReportOfInputs (inquiry_of options bytes) (map left streams) report
+      × IsRunReportOfInputs (inquiry_of options bytes) (map left streams) report
       → IsReadOutcome files wishes folder (inquiry_of options bytes) outcome
   document_is_read document one not_refused is named known outcome given =
       subst (λ (o : Outcome). IsReadOutcome files wishes folder (inquiry_of options bytes) o) (sym given.1)

@@ -1,5 +1,5 @@
 -- What is written of a test, some runs after others.
-use Rattle.std.proofs.Common.{◌≡◌, ℕ, suc, ◌+◌, List, [], ◌∷◌, ◌++◌, length, take, Option, Ok, Err, refl, sym, ap, subst, ◌∙◌, append_assoc, inl, inr, arith}
+use Rattle.std.proofs.Common.{◌≡◌, ℕ, suc, ◌+◌, List, [], ◌∷◌, ◌++◌, length, take, Option, None, Ok, Err, refl, sym, ap, subst, ◌∙◌, append_assoc, inl, inr, arith}
 use Rattle.std.specs.Prelude.{⊤, Bool, IfErr, IsErr, IsErrAnd, Result, min}
 use Rattle.std.specs.List.{AllZip}
 use Rattle.std.specs.Io.KnownBytes.{Appends, Keeps}
@@ -12,23 +12,25 @@ use Rattle.app_host.proofs.FilesRead.{up_to_weaker}
 use Rattle.app_host.proofs.WrittenSoFar.{appends_kept, appends_on, up_to}
 use Rattle.judge_results.specs.declared.results.Wanted.{Wanted}
 use Rattle.judge_runs.specs.Runs.{Run}
+use Rattle.judge_runs.specs.Tallies.{lines_text, summary_text}
 use Rattle.judge_runs.specs.Wishes.{Condition}
 use Rattle.judge_runs.specs.declared.conclusion.Conclusion.{Conclusion}
 use Rattle.judge_runs.specs.declared.conclusion.Conclusion.TheVariants.{AllPass, SomeFails, SomeNotJudged}
 use Rattle.judge_session.specs.declared.fault.EngineFault.{EngineFault}
 use Rattle.judge_session.specs.declared.fault.EngineFault.TheVariants.{BundleLong, Memory, Read, Write}
 use Rattle.app_test.specs.TestedRuns.{AreRecords, AreTested, EndsTest, IsConcluded, LeavesMore, TestsMore, end_in, lines_in}
-use Rattle.app_test.specs.Tests.{IsRunIn, IsTestText, TestLeaves, test_ending, text_in}
+use Rattle.app_test.specs.Tests.{IsRunIn, IsTestText, TestLeaves, orders_text, test_ending, text_in}
 use Rattle.app_test.specs.declared.records.Records.{Records}
 use Rattle.app_test.proofs.RunLines.{after_part, first_part, lines_on}
 
 -- ---- the parts of the text
 
 -- what is due before the end, and what is due there
-pub whole_text : (format : Format) (wishes : List Condition) (runs : List Run)
-    → text_in format wishes runs ≡ lines_in format wishes runs ++ end_in format wishes runs
-whole_text Plain wishes runs = refl
-whole_text Json wishes runs = refl
+pub whole_text : (format : Format) (wishes : List Condition) (runs : List Run) (orders : Option ℕ)
+    → text_in format wishes runs orders ≡ lines_in format wishes runs ++ end_in format wishes runs orders
+whole_text Plain wishes runs orders =
+    append_assoc (lines_text wishes runs) (summary_text wishes runs) (orders_text orders)
+whole_text Json wishes runs orders = refl
 
 -- nothing is due of no run
 none_due : (format : Format) (wishes : List Condition) → lines_in format wishes [] ≡ []
@@ -73,10 +75,11 @@ module _ (files : List ℕ → File) (options : Options) (wishes : List Conditio
 -- ---- the end
 
 -- a fault before the end is written
-pub nothing_concluded : (format : Format) (wishes : List Condition) (runs : List Run) (old : Option (List ℕ))
-    (result : Result Conclusion EngineFault) → IsErr result → IsConcluded format wishes runs result old old
-nothing_concluded format wishes runs old (Ok end) is = absurd (cc)
-nothing_concluded format wishes runs old (Err fault) is = (0, Appends-nil old)
+pub nothing_concluded : (format : Format) (wishes : List Condition) (runs : List Run) (orders : Option ℕ)
+    (old : Option (List ℕ)) (result : Result Conclusion EngineFault) → IsErr result
+    → IsConcluded format wishes runs orders result old old
+nothing_concluded format wishes runs orders old (Ok end) is = absurd (cc)
+nothing_concluded format wishes runs orders old (Err fault) is = (0, Appends-nil old)
 
 -- ---- a test that ends early
 
@@ -88,60 +91,63 @@ LeavesPart files options wishes format folders old new =
 
 module _ (files : List ℕ → File) (options : Options) (wishes : List Condition) (format : Format)
     (folders : List (List ℕ)) (old new : Option (List ℕ)) where
-  cut_text : (runs : List Run) (count : ℕ) → AllZip (IsRunIn files options wishes) folders runs
-      → Appends old new (take count (lines_in format wishes runs ++ end_in format wishes runs))
+  cut_text : (runs : List Run) (orders : Option ℕ) (count : ℕ) → AllZip (IsRunIn files options wishes) folders runs
+      → Appends old new (take count (lines_in format wishes runs ++ end_in format wishes runs orders))
       → LeavesPart files options wishes format folders old new
-  cut_text runs count are written =
-      up_to_weaker (λ text. text ≡ text_in format wishes runs)
+  cut_text runs orders count are written =
+      up_to_weaker (λ text. text ≡ text_in format wishes runs orders)
       (IsTestText files options wishes format (λ _. ⊤) folders) old new
-      (λ text same. record { runs = runs; are_runs = are; said = tt; is_text = same })
-      (up_to (text_in format wishes runs) old new count
-      (subst (λ (text : List ℕ). Appends old new (take count text)) (sym (whole_text format wishes runs)) written))
+      (λ text same. record { runs = runs; are_runs = are; said = tt; orders = orders; is_text = same })
+      (up_to (text_in format wishes runs orders) old new count
+      (subst (λ (text : List ℕ). Appends old new (take count text)) (sym (whole_text format wishes runs orders))
+      written))
 
   module _ (wanted : Wanted) (records : Records) (middle : Option (List ℕ))
       (all : AreTested files options wishes format wanted folders records old middle) where
     -- before the line of the next run, or the end
     pub cut_after : Keeps middle new → LeavesPart files options wishes format folders old new
     cut_after keeps =
-        cut_text all.runs (length (lines_in format wishes all.runs)) all.are_runs
+        cut_text all.runs None (length (lines_in format wishes all.runs)) all.are_runs
         (subst (λ (text : List ℕ). Appends old new text)
-        (sym (first_part (lines_in format wishes all.runs) (end_in format wishes all.runs)))
+        (sym (first_part (lines_in format wishes all.runs) (end_in format wishes all.runs None)))
         (appends_kept old middle new (lines_in format wishes all.runs) all.written keeps))
 
-    -- in the end
-    cut_end : (fault : EngineFault) → IsConcluded format wishes all.runs (Err fault) middle new
-        → LeavesPart files options wishes format folders old new
-    cut_end fault cut =
-        cut_text all.runs (length (lines_in format wishes all.runs) + cut.0) all.are_runs
-        (subst (λ (text : List ℕ). Appends old new text)
-        (sym (after_part (lines_in format wishes all.runs) (end_in format wishes all.runs) cut.0))
-        (appends_on old middle new (lines_in format wishes all.runs) (take cut.0 (end_in format wishes all.runs))
-        all.written cut.1))
+    module _ (orders : Option ℕ) where
+      -- in the end
+      cut_end : (fault : EngineFault) → IsConcluded format wishes all.runs orders (Err fault) middle new
+          → LeavesPart files options wishes format folders old new
+      cut_end fault cut =
+          cut_text all.runs orders (length (lines_in format wishes all.runs) + cut.0) all.are_runs
+          (subst (λ (text : List ℕ). Appends old new text)
+          (sym (after_part (lines_in format wishes all.runs) (end_in format wishes all.runs orders) cut.0))
+          (appends_on old middle new (lines_in format wishes all.runs)
+          (take cut.0 (end_in format wishes all.runs orders)) all.written cut.1))
 
-    -- all is written
-    all_written : Appends middle new (end_in format wishes all.runs)
-        → Appends old new (text_in format wishes all.runs)
-    all_written end =
-        subst (λ (text : List ℕ). Appends old new text) (sym (whole_text format wishes all.runs))
-        (appends_on old middle new (lines_in format wishes all.runs) (end_in format wishes all.runs) all.written end)
+      -- all is written
+      all_written : Appends middle new (end_in format wishes all.runs orders)
+          → Appends old new (text_in format wishes all.runs orders)
+      all_written end =
+          subst (λ (text : List ℕ). Appends old new text) (sym (whole_text format wishes all.runs orders))
+          (appends_on old middle new (lines_in format wishes all.runs) (end_in format wishes all.runs orders)
+          all.written end)
 
-    concluded : (end : Conclusion) → IsConcluded format wishes all.runs (Ok end) middle new
-        → TestLeaves files options wishes format folders (test_ending (Ok end)) old new
-    concluded AllPass done = (
-      text_in format wishes all.runs,
-      record { runs = all.runs; are_runs = all.are_runs; said = sym done.0; is_text = refl },
-      all_written done.1,
-    )
-    concluded SomeFails done = (
-      text_in format wishes all.runs,
-      record { runs = all.runs; are_runs = all.are_runs; said = sym done.0; is_text = refl },
-      all_written done.1,
-    )
-    concluded SomeNotJudged done = (
-      text_in format wishes all.runs,
-      record { runs = all.runs; are_runs = all.are_runs; said = sym done.0; is_text = refl },
-      all_written done.1,
-    )
+      concluded : (end : Conclusion) → IsConcluded format wishes all.runs orders (Ok end) middle new
+          → TestLeaves files options wishes format folders (test_ending (Ok end)) old new
+      concluded AllPass done = (
+        text_in format wishes all.runs orders,
+        record { runs = all.runs; are_runs = all.are_runs; said = sym done.0; orders = orders; is_text = refl },
+        all_written done.1,
+      )
+      concluded SomeFails done = (
+        text_in format wishes all.runs orders,
+        record { runs = all.runs; are_runs = all.are_runs; said = sym done.0; orders = orders; is_text = refl },
+        all_written done.1,
+      )
+      concluded SomeNotJudged done = (
+        text_in format wishes all.runs orders,
+        record { runs = all.runs; are_runs = all.are_runs; said = sym done.0; orders = orders; is_text = refl },
+        all_written done.1,
+      )
 
   -- a fault leaves a part of the text of a test of the first runs
   pub broken_off : (fault : EngineFault) → EndsTest fault → (count : ℕ)
@@ -163,14 +169,14 @@ module _ (files : List ℕ → File) (options : Options) (wishes : List Conditio
 
   -- what is left once all runs are tested
   pub ended : (wanted : Wanted) (records : Records) (middle : Option (List ℕ))
-      (all : AreTested files options wishes format wanted folders records old middle)
-      (result : Result Conclusion EngineFault) → IsConcluded format wishes all.runs result middle new
+      (all : AreTested files options wishes format wanted folders records old middle) (orders : Option ℕ)
+      (result : Result Conclusion EngineFault) → IsConcluded format wishes all.runs orders result middle new
       → IfErr result EndsTest → TestLeaves files options wishes format folders (test_ending result) old new
-  ended wanted records middle all (Ok end) done ends = concluded wanted records middle all end done
-  ended wanted records middle all (Err fault) done ends =
+  ended wanted records middle all orders (Ok end) done ends = concluded wanted records middle all orders end done
+  ended wanted records middle all orders (Err fault) done ends =
       broken_off fault ends (length folders)
       (subst (λ (some : List (List ℕ)). LeavesPart files options wishes format some old new)
-      (sym (take_all (length folders) folders (omega arith))) (cut_end wanted records middle all fault done))
+      (sym (take_all (length folders) folders (omega arith))) (cut_end wanted records middle all orders fault done))
 
 -- ---- in the lines of the next runs
 
@@ -201,7 +207,7 @@ module _ (files : List ℕ → File) (options : Options) (wishes : List Conditio
       let lines = lines_in format wishes all.runs in
       let others = lines_in format wishes cut.runs in
       let part = min cut.left.0 (length others) in
-      let end = end_in format wishes (all.runs ++ cut.runs) in
+      let end = end_in format wishes (all.runs ++ cut.runs) None in
       let text : take (length lines + part) (lines_in format wishes (all.runs ++ cut.runs) ++ end)
       ≡ lines ++ take cut.left.0 others =
       ap (λ (l : List ℕ). take (length lines + part) (l ++ end)) (lines_on format wishes all.runs cut.runs)
@@ -209,7 +215,7 @@ module _ (files : List ℕ → File) (options : Options) (wishes : List Conditio
       ∙ (after_part lines (others ++ end) part
       ∙ ap (λ l. lines ++ l) (take-append-le part others end (omega arith) ∙ take_min cut.left.0 others))) in
       let left : LeavesPart files options wishes format some old new =
-      cut_text files options wishes format some old new (all.runs ++ cut.runs) (length lines + part)
+      cut_text files options wishes format some old new (all.runs ++ cut.runs) None (length lines + part)
       (zip_append (IsRunIn files options wishes) folders all.runs (take cut.count more) cut.runs all.are_runs
       cut.are_runs)
       (subst (λ (l : List ℕ). Appends old new l) (sym text)
@@ -227,7 +233,7 @@ module _ (files : List ℕ → File) (options : Options) (wishes : List Conditio
   -- nothing is written
   pub nothing_left : (old : Option (List ℕ))
       → TestLeaves files options wishes format folders (test_ending (Err Write)) old old
-  nothing_left old = (0, cut_text files options wishes format [] old old [] 0 tt (Appends-nil old))
+  nothing_left old = (0, cut_text files options wishes format [] old old [] None 0 tt (Appends-nil old))
 
   -- a text of a test of all is a text of a test of the first
   of_first : (IsSaid : List Run → Type 0) (text : List ℕ) → IsTestText files options wishes format IsSaid folders text
@@ -237,6 +243,7 @@ module _ (files : List ℕ → File) (options : Options) (wishes : List Conditio
     are_runs = subst (λ (some : List (List ℕ)). AllZip (IsRunIn files options wishes) some is.runs)
         (sym (take_all (length folders) folders (omega arith))) is.are_runs;
     said = tt;
+    orders = is.orders;
     is_text = is.is_text;
   }
 

@@ -1,17 +1,19 @@
 -- What comes of runs whose files are open.
 use Rattle.std.specs.Prelude.{◌≡◌, ⊤, ℕ, Bool, false, All, List, [], ◌∷◌, map, string_bytes, Result, Ok, Err}
 use Rattle.def_format.specs.Documents.{Options, inquiry_of}
-use Rattle.def_format.specs.Reports.{Report}
 use Rattle.def_judgement.specs.Writes.{Source}
 use Rattle.app_arguments.specs.Statuses.{File}
 use Rattle.judge_bundles.specs.BundleRuns.{IsOutcomeOfBundle}
-use Rattle.judge_runs.specs.Runs.{Outcome, Reported, Run}
+use Rattle.judge_runs.specs.Runs.{Outcome, Run}
 use Rattle.judge_runs.specs.Views.{outcome_view}
 use Rattle.judge_runs.specs.Wishes.{Condition}
 use Rattle.judge_runs.specs.declared.outcome.Outcome as outcomes
 use Rattle.judge_session.specs.declared.fault.EngineFault.{EngineFault}
 use Rattle.judge_session.specs.declared.fault.EngineFault.TheVariants.{Memory}
-use Rattle.pd_engine.specs.SessionReports.{IsTrueReportOfInputs}
+use Rattle.judge_shared.specs.Sharing.{AreSound}
+use Rattle.judge_shared.specs.Trials.{GivesOutcome, IsReportedOf}
+use Rattle.judge_shared.specs.declared.orders.Orders.{Orders}
+use Rattle.judge_shared.specs.declared.trial.Trial.{Trial}
 use Rattle.app_test.specs.Tests.{IsOutcome, IsOutcomeOfFile, IsOutcomeOfFolder, IsReadOutcome}
 use Rattle.app_test.specs.declared.job.Job.{Job}
 use Rattle.app_test.specs.declared.job.Job.TheVariants as jobs
@@ -28,16 +30,22 @@ abbrev pub IsOutcomeOfJob : {R : Type 0} (left : R → Source) (options : Option
     → Outcome → Type 0
 IsOutcomeOfJob left options wishes (jobs.Done known) outcome = outcome ≡ outcome_view known
 IsOutcomeOfJob left options wishes (jobs.Judge document streams) outcome =
-    (report : Report) × (outcome ≡ Reported report)
-    × IsTrueReportOfInputs (inquiry_of options document.items) (map left streams.items) report
+    IsReportedOf (inquiry_of options document.items) (map left streams.items) outcome
 IsOutcomeOfJob left options wishes (jobs.Bundle name file) outcome =
     IsOutcomeOfBundle options wishes (string_bytes name) (left file) outcome
 
--- the same of a result, whose one fault is that memory ran out
-abbrev pub IsResultOfJob : {R : Type 0} (left : R → Source) (options : Options) (wishes : List Condition) → Job R
+-- A trial gives it, if the orders of the runs before are right; or memory ran out.
+abbrev pub IsResultOfJob : {R : Type 0} (left : R → Source) (options : Options) (wishes : List Condition)
+    (orders : Orders) → Job R → Result Trial EngineFault → Type 0
+IsResultOfJob left options wishes orders job (Ok trial) =
+    AreSound options orders → GivesOutcome options (IsOutcomeOfJob left options wishes job) trial
+IsResultOfJob left options wishes orders job (Err fault) = fault ≡ Memory
+
+-- the same of the outcome, once the runs before are known
+abbrev pub IsOutcomeResult : {R : Type 0} (left : R → Source) (options : Options) (wishes : List Condition) → Job R
     → Result outcomes.Outcome EngineFault → Type 0
-IsResultOfJob left options wishes job (Ok outcome) = IsOutcomeOfJob left options wishes job (outcome_view outcome)
-IsResultOfJob left options wishes job (Err fault) = fault ≡ Memory
+IsOutcomeResult left options wishes job (Ok outcome) = IsOutcomeOfJob left options wishes job (outcome_view outcome)
+IsOutcomeResult left options wishes job (Err fault) = fault ≡ Memory
 
 -- whatever comes of the job comes of the run of this name
 abbrev pub IsJobOf : {R : Type 0} (left : R → Source) (files : List ℕ → File) (options : Options)

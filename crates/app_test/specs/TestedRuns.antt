@@ -19,7 +19,7 @@ use Rattle.judge_runs.specs.declared.outcome.Outcome as outcomes
 use Rattle.judge_session.specs.declared.fault.EngineFault.{EngineFault}
 use Rattle.judge_session.specs.declared.fault.EngineFault.TheVariants.{Memory, Write}
 use Rattle.app_test.specs.Jobs.{run_of}
-use Rattle.app_test.specs.Tests.{IsRunIn, is_json}
+use Rattle.app_test.specs.Tests.{IsRunIn, is_json, orders_text}
 use Rattle.app_test.specs.declared.records.Records.{Records}
 
 -- a fault that ends a test
@@ -54,10 +54,10 @@ abbrev pub lines_in : Format → List Condition → List Run → List ℕ
 lines_in Plain wishes runs = lines_text wishes runs
 lines_in Json wishes runs = []
 
--- what is written at the end
-abbrev pub end_in : Format → List Condition → List Run → List ℕ
-end_in Plain wishes runs = summary_text wishes runs
-end_in Json wishes runs = results_json wishes runs
+-- what is written at the end of runs with this number of orders
+abbrev pub end_in : Format → List Condition → List Run → (orders : Option ℕ) → List ℕ
+end_in Plain wishes runs orders = summary_text wishes runs ++ orders_text orders
+end_in Json wishes runs orders = results_json wishes runs orders
 
 -- What is due of these runs before the end is written, records stand for them too, and the folders of those that fail
 -- are added, if that is wanted.
@@ -111,9 +111,9 @@ pub record AreTested (files : List ℕ → File) (options : Options) (wishes : L
   pub written : Appends old new (lines_in format wishes runs)
 
 -- What is written at the end of a test of these runs, and what they come to; or a prefix of it is.
-abbrev pub IsConcluded : (format : Format) (wishes : List Condition) (runs : List Run) → Result Conclusion EngineFault
-    → (old new : Option (List ℕ)) → Type 0
-IsConcluded format wishes runs (Ok end) old new =
-    (conclusion_view end ≡ conclusion wishes runs) × Appends old new (end_in format wishes runs)
-IsConcluded format wishes runs (Err fault) old new =
-    (count : ℕ) × Appends old new (take count (end_in format wishes runs))
+abbrev pub IsConcluded : (format : Format) (wishes : List Condition) (runs : List Run) (orders : Option ℕ)
+    → Result Conclusion EngineFault → (old new : Option (List ℕ)) → Type 0
+IsConcluded format wishes runs orders (Ok end) old new =
+    (conclusion_view end ≡ conclusion wishes runs) × Appends old new (end_in format wishes runs orders)
+IsConcluded format wishes runs orders (Err fault) old new =
+    (count : ℕ) × Appends old new (take count (end_in format wishes runs orders))

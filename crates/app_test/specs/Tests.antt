@@ -1,5 +1,5 @@
 -- What a test of recorded runs leaves on its output, by the files in their folders, and those that are bundles.
-use Rattle.std.specs.Prelude.{◌≡◌, ◌≢◌, ◌⊎◌, ⊤, ℕ, Bool, true, false, List, [], ◌∷◌, ◌++◌, codes, map, take, Option, Some, None, Result, Ok, Err}
+use Rattle.std.specs.Prelude.{◌≡◌, ◌≢◌, ◌⊎◌, ⊤, ℕ, Bool, true, false, List, [], ◌∷◌, ◌++◌, codes, decimal, map, take, Option, Some, None, Result, Ok, Err}
 use Rattle.std.specs.List.{AllZip, slice_get}
 use Rattle.def_format.specs.Documents.{Document, DocumentFault, Inquiry, IsDocument, IsRefusedDocument, Options}
 use Rattle.def_format.specs.Names.{ProcessNames}
@@ -14,7 +14,7 @@ use Rattle.judge_runs.specs.Views.{conclusion_view}
 use Rattle.def_judgement.specs.Findings.{names_asked}
 use Rattle.judge_runs.specs.Wishes.{Condition, first_unnamed}
 use Rattle.judge_runs.specs.declared.conclusion.Conclusion as conclusions
-use Rattle.pd_engine.specs.SessionReports.{IsTrueReportOfInputs}
+use Rattle.judge_shared.specs.SharedReports.{IsRunReportOfInputs}
 use Rattle.judge_session.specs.declared.fault.EngineFault.{EngineFault}
 use Rattle.app_host.specs.Faults.{failure_view}
 
@@ -28,8 +28,8 @@ stream_in folder process = folder ++ codes "/" ++ (process.name ++ codes ".strea
 
 -- ---- what comes of a run
 
--- The report of an inquiry, and of the streams in a folder of its document's processes, in the document's order, which
--- is true. The document has each predicate that is wished for. Of a document that is refused no stream is read.
+-- The report of an inquiry, and of the streams in a folder of its document's processes, in the document's order. The
+-- document has each predicate that is wished for. Of a document that is refused no stream is read.
 pub record IsReportOfInquiry (files : List ℕ → File) (wishes : List Condition) (folder : List ℕ) (inquiry : Inquiry)
     (report : Report) : Type 0 where
   pub inputs : List Source
@@ -37,7 +37,7 @@ pub record IsReportOfInquiry (files : List ℕ → File) (wishes : List Conditio
       → (first_unnamed (names_asked document) wishes ≡ None)
       × (inputs ≡ sources_of (map files (map (stream_in folder) document.names)))
   pub of_refused : (fault : DocumentFault) → IsRefusedDocument inquiry fault → inputs ≡ []
-  pub given : IsTrueReportOfInputs inquiry inputs report
+  pub given : IsRunReportOfInputs inquiry inputs report
 
 -- What comes of a run in a folder by the document there, with what is asked beside it. The document has each predicate
 -- that is wished for, and a process of it has its stream in the file of this name, which may be such that it can't be
@@ -77,19 +77,26 @@ pub record IsOutcome (files : List ℕ → File) (options : Options) (wishes : L
 
 -- ---- the text
 
--- the text of a test of these runs in this format
-abbrev pub text_in : Format → List Condition → List Run → List ℕ
-text_in Plain wishes runs = test_text wishes runs
-text_in Json wishes runs = results_json wishes runs
+-- the line that says how many orders the runs have, if it is known
+abbrev pub orders_text : Option ℕ → List ℕ
+orders_text None = []
+orders_text (Some orders) = codes "orders: " ++ decimal orders ++ codes "\n"
 
--- The text of a test of the runs in these folders, in this format. Of the runs this is said.
+-- the text of a test of these runs, with this number of orders, in this format
+abbrev pub text_in : Format → List Condition → List Run → (orders : Option ℕ) → List ℕ
+text_in Plain wishes runs orders = test_text wishes runs ++ orders_text orders
+text_in Json wishes runs orders = results_json wishes runs orders
+
+-- The text of a test of the runs in these folders, in this format. Of the runs this is said; how many orders they have
+-- is what was counted, of which nothing more is said.
 pub record IsTestText (files : List ℕ → File) (options : Options) (wishes : List Condition) (format : Format)
     (IsSaid : List Run → Type 0) (folders : List (List ℕ)) (text : List ℕ) : Type 0 where
   pub runs : List Run
   pub are_runs : AllZip (λ folder (run : Run). (run.folder ≡ folder)
       × IsOutcome files options wishes folder run.outcome) folders runs
   pub said : IsSaid runs
-  pub is_text : text ≡ text_in format wishes runs
+  pub orders : Option ℕ
+  pub is_text : text ≡ text_in format wishes runs orders
 
 -- What a test leaves. All runs pass, or one fails, or one isn't judged: the text of the test of all runs. The output
 -- fails, or memory runs out: the text of a test of the first of them, or a prefix of it.

@@ -5,7 +5,8 @@
 //! opened in its order, and the report is made. A bundle is opened, and then read and judged at once. A run that can't
 //! be read or is refused isn't judged, and the test goes on with the others. Some runs are judged side by side: their
 //! files are opened one after another, then each is judged in a thread of its own, and their lines are written in order
-//! as soon as all of them are judged. Memory holds these runs alone.
+//! as soon as all of them are judged. A run isn't judged if one before those had its order and no unknown answer: it
+//! has these answers. Memory holds the runs that are judged side by side, and the orders of those before.
 //!
 //! What a test leaves on its output stands in `specs/Tests.antt`. The three files of definitions beside it are for the
 //! functions within: `ReadRuns` says why the streams of a run aren't open, `Jobs` what comes of runs whose files are
@@ -19,7 +20,7 @@
 //! - `jobs`: runs whose files are open, judged side by side
 //! - `run_bundle`: opens a run that is a bundle
 //! - `run`: opens the files of a run
-//! - `records`: what is kept of the runs so far
+//! - `records`: what is known of the runs so far
 //! - `tests`: tests runs, some at a time
 //! - `ends`: how a test ended: the exit status, and what is reported
 #![tactic(auto)]
@@ -37,7 +38,7 @@ mod tests;
 mod unopened;
 
 pub use ends::report_test;
-pub use records::Records;
+pub use records::{Records, Tested};
 pub use run_document::read_run_document;
 pub use run_files::{document_in, stream_in};
 pub use run_streams::open_streams;

@@ -1,4 +1,4 @@
-//! What is kept of the runs so far.
+//! What is known of the runs so far.
 ghost use Rattle.app_arguments.specs.Views.{format_view};
 ghost use Rattle.app_test.specs.TestedRuns.{wanted_by};
 ghost use Rattle.app_test.specs.Tests.{is_json};
@@ -7,6 +7,7 @@ ghost use Rattle.std.specs.Prelude.{◌≡◌};
 use app_arguments::{Format, Test};
 use judge_results::{Results, Wanted};
 use judge_runs::Tally;
+use judge_shared::Orders;
 use std::alloc::Global;
 
 /// Whether one JSON object is written.
@@ -44,12 +45,40 @@ impl Records {
     ghost use Rattle.std.specs.Prelude.{[], List};
 
     /// Of no run, for this test.
-    pub fn new(alloc: Global, test: &Test<'_>) -> Records
+    pub(crate) fn new(alloc: Global, test: &Test<'_>) -> Records
         ensures { (wishes : List Condition) → AreRecords (wanted_by test.now) wishes [] result }
     {
         Records {
             tally: Tally::new(alloc),
             results: Results::new(alloc, wanted_by(test)),
+        }
+    }
+}
+
+/// What is known of the runs so far.
+#[derive(Drop)]
+pub struct Tested {
+    /// What is kept of them for the end.
+    pub records: Records,
+    /// Their orders.
+    pub orders: Orders,
+}
+
+impl Tested {
+    ghost use Rattle.app_test.specs.TestedRuns.{AreRecords, wanted_by};
+    ghost use Rattle.def_format.specs.Documents.{Options};
+    ghost use Rattle.judge_runs.specs.Wishes.{Condition};
+    ghost use Rattle.judge_shared.specs.Sharing.{AreSound};
+    ghost use Rattle.std.specs.Prelude.{[], List};
+
+    /// Of no run, for this test.
+    pub fn new(alloc: Global, test: &Test<'_>) -> Tested
+        ensures records { (wishes : List Condition) → AreRecords (wanted_by test.now) wishes [] result.records }
+        ensures orders { (options : Options) → AreSound options result.orders }
+    {
+        Tested {
+            records: Records::new(alloc, test),
+            orders: Orders::new(alloc),
         }
     }
 }

@@ -5,21 +5,26 @@ ghost use Rattle.app_test.specs.Jobs.{run_of, runs_of};
 ghost use Rattle.app_test.specs.TestedRuns.{EndsTest, IsConcluded, LeavesMore, LeavesRuns, TestsMore, WritesResult, WritesRuns, end_in, failing_in, fails_run, lines_in};
 ghost use Rattle.judge_results.specs.Results.{results_json};
 ghost use Rattle.judge_runs.specs.Runs.{Run, line_of};
-ghost use Rattle.judge_runs.specs.Tallies.{Stands};
+ghost use Rattle.judge_runs.specs.Tallies.{Stands, summary_text};
+ghost use Rattle.judge_shared.specs.Sharing.{AreSound};
+ghost use Rattle.app_test.specs.Tests.{IsRunIn, orders_text};
+ghost use Rattle.std.specs.List.{AllZip};
 ghost use Rattle.judge_runs.specs.Views.{wishes_view};
 ghost use Rattle.judge_runs.specs.Wishes as wished;
 ghost use Rattle.pd_spec.specs.Views.{options_view};
 ghost use Rattle.std.specs.Io.KnownBytes.{Appends};
-ghost use Rattle.std.specs.Prelude.{◌≡◌, ◌++◌, ◌∷◌, [], IfErr, IfOk, List, OnErr, OnOk, is_some, length, take, true, ℕ};
+ghost use Rattle.std.specs.Prelude.{◌≡◌, ◌++◌, ◌∷◌, [], IfErr, IfOk, IsOkUnless, List, OnErr, OnOk, is_some, length, take, true, ℕ};
 
-use super::jobs::outcomes_of_jobs;
-use super::records::Records;
+use super::jobs::trials_of_jobs;
+use super::records::{Records, Tested};
 use super::run::jobs_of;
 use app_arguments::{Format, Test};
 use app_host::{System, World, write_flushed};
 use judge_runs::{Conclusion, Outcome, Tally, Wish};
 use judge_session::EngineFault;
+use judge_shared::{Orders, final_outcomes};
 use pd_engine::Gate;
+use pd_report::{push_bytes, push_number};
 use std::alloc::{AllocError, Global};
 use std::io::Write;
 
@@ -207,10 +212,47 @@ fn put_runs<'f, O: Write>(
     Ok(failing)
 }
 
-/// Tests the runs in these folders side by side: opens their files, judges each in a thread of its own, writes their
-/// lines in the order of the folders, if lines are written, flushes the output after each, and adds the runs to the
-/// records. It gives the folders of the runs that fail, if pages are wanted. The workers, which share the work on one
-/// run, and the gate change how long it takes, and nothing else.
+/// What comes of the runs of these names, in their order: their files are opened, each is judged in a thread of its
+/// own, unless the answers of its order are known, and their orders are noted.
+///
+/// # Errors
+/// `Memory`.
+fn outcomes_of<Y: System, G: Gate + Sync>(
+    world: &World<'_, Y>,
+    test: &Test<'_>,
+    wishes: &[Wish<'_>],
+    names: &[&str],
+    gate: &G,
+    orders: &mut Orders,
+) -> Result<Vec<Result<Outcome, EngineFault>>, EngineFault>
+    requires { AreSound (options_view test.now.options) orders.old }
+    ensures all { IfOk result (λ found. length found.items ≡ length names.now) }
+    ensures runs { IfOk result (λ found. AllZip (IsRunIn (Y.Files.file_of world.now.files.now)
+        (options_view test.now.options) (wishes_view wishes.now))
+        (take (length (runs_of (names_view names.now) found.items)) (names_view names.now))
+        (runs_of (names_view names.now) found.items)) }
+    ensures sound { IfOk result (λ _. AreSound (options_view test.now.options) orders.new) }
+    ensures err { IsOkUnless result EngineFault.Memory }
+{
+    let jobs = jobs_of(world, names, &test.options, wishes)?;
+    let workers = test.workers.count();
+    let trials = trials_of_jobs(
+        world.rt,
+        &world.alloc,
+        &test.options,
+        wishes,
+        workers,
+        gate,
+        orders,
+        jobs,
+    )?;
+    Ok(final_outcomes(orders, world.alloc, trials)?)
+}
+
+/// Tests the runs in these folders side by side: opens their files, judges each in a thread of its own, unless the
+/// answers of its order are known, writes their lines in the order of the folders, if lines are written, flushes the
+/// output after each, and adds the runs to what is known. It gives the folders of the runs that fail, if pages are
+/// wanted. The workers, which share the work on one run, and the gate change how long it takes, and nothing else.
 ///
 /// # Errors
 /// `Memory` leaves the lines of the first runs written, or none. `Write` leaves a prefix of the lines written, or all
@@ -221,30 +263,29 @@ fn test_asked<'f, Y: System, G: Gate + Sync, O: Write>(
     asked: &Asked<'_, '_>,
     folders: &[&'f str],
     gate: &G,
-    records: &mut Records,
+    tested: &mut Tested,
     output: &mut O,
 ) -> Result<Vec<&'f str>, EngineFault>
+    requires { AreSound (options_view test.now.options) tested.old.orders }
     ensures tested { IfOk result (λ failing. TestsMore (Y.Files.file_of world.now.files.now)
         (options_view test.now.options) (wishes_view asked.now.wishes.now) (format_view asked.now.format)
-        asked.now.has_pages (names_view folders.now) records.old records.new (names_view failing.items)
+        asked.now.has_pages (names_view folders.now) tested.old.records tested.new.records (names_view failing.items)
         (O.contents output.old) (O.contents output.new)) }
+    ensures sound { IfOk result (λ _. AreSound (options_view test.now.options) tested.new.orders) }
     ensures left { OnErr result (LeavesMore (Y.Files.file_of world.now.files.now) (options_view test.now.options)
         (wishes_view asked.now.wishes.now) (format_view asked.now.format) (names_view folders.now)
         (O.contents output.old) (O.contents output.new)) }
     ensures err { IfErr result EndsTest }
 {
-    let jobs = jobs_of(world, folders, &test.options, asked.wishes)?;
-    let workers = test.workers.count();
-    let found = outcomes_of_jobs(
-        world.rt,
-        &world.alloc,
-        &test.options,
-        asked.wishes,
-        workers,
-        gate,
-        jobs,
-    )?;
-    put_runs(world.alloc, asked, folders, &found, records, output)
+    let found = outcomes_of(world, test, asked.wishes, folders, gate, &mut tested.orders)?;
+    put_runs(
+        world.alloc,
+        asked,
+        folders,
+        &found,
+        &mut tested.records,
+        output,
+    )
 }
 
 /// Tests the runs in these folders side by side, as `test_asked`.
@@ -256,13 +297,15 @@ pub fn test_some<'f, Y: System, G: Gate + Sync, O: Write>(
     test: &Test<'_>,
     folders: &[&'f str],
     gate: &G,
-    records: &mut Records,
+    tested: &mut Tested,
     output: &mut O,
 ) -> Result<Vec<&'f str>, EngineFault>
+    requires { AreSound (options_view test.now.options) tested.old.orders }
     ensures tested { IfOk result (λ failing. TestsMore (Y.Files.file_of world.now.files.now)
         (options_view test.now.options) (wishes_view test.now.wishes.items) (format_view test.now.format)
-        (is_some test.now.pages) (names_view folders.now) records.old records.new (names_view failing.items)
-        (O.contents output.old) (O.contents output.new)) }
+        (is_some test.now.pages) (names_view folders.now) tested.old.records tested.new.records
+        (names_view failing.items) (O.contents output.old) (O.contents output.new)) }
+    ensures sound { IfOk result (λ _. AreSound (options_view test.now.options) tested.new.orders) }
     ensures left { OnErr result (LeavesMore (Y.Files.file_of world.now.files.now) (options_view test.now.options)
         (wishes_view test.now.wishes.items) (format_view test.now.format) (names_view folders.now)
         (O.contents output.old) (O.contents output.new)) }
@@ -273,11 +316,41 @@ pub fn test_some<'f, Y: System, G: Gate + Sync, O: Write>(
         format: test.format,
         has_pages: test.pages.is_some(),
     };
-    test_asked(world, test, &asked, folders, gate, records, output)
+    test_asked(world, test, &asked, folders, gate, tested, output)
 }
 
-/// Writes what is due at the end, and flushes the output: the summary of the runs that a tally stands for, or this JSON
-/// text.
+/// The line that says how many orders the runs have, if it is known.
+///
+/// # Errors
+/// An allocation was refused.
+fn push_orders(out: &mut Vec<u8>, orders: Option<u64>) -> Result<(), AllocError>
+    ensures { OnOk result (out.new.items ≡ out.old.items ++ orders_text orders) }
+{
+    match orders {
+        Some(number) => {
+            push_bytes(out, b"orders: ")?;
+            push_number(out, number)?;
+            push_bytes(out, b"\n")
+        }
+        None => Ok(()),
+    }
+}
+
+/// The summary of the runs that a tally stands for, with this number of orders.
+///
+/// # Errors
+/// An allocation was refused.
+fn summary_of(alloc: Global, tally: &Tally, orders: Option<u64>) -> Result<Vec<u8>, AllocError>
+    ensures { IfOk result (λ text. (wishes : List wished.Condition) (runs : List Run) → Stands wishes runs tally.now
+        → text.items ≡ summary_text wishes runs ++ orders_text orders) }
+{
+    let mut summary = tally.summary(alloc)?;
+    push_orders(&mut summary, orders)?;
+    Ok(summary)
+}
+
+/// Writes what is due at the end, and flushes the output: the summary of the runs that a tally stands for, with this
+/// number of orders, or this JSON text.
 ///
 /// # Errors
 /// `Memory` leaves nothing written. `Write` leaves a prefix of it written, or all of it if only the flush failed.
@@ -286,29 +359,30 @@ fn write_end<O: Write>(
     tally: &Tally,
     format: Format,
     json: &[u8],
+    orders: Option<u64>,
     output: &mut O,
 ) -> Result<(), EngineFault>
     ensures written { (wishes : List wished.Condition) (runs : List Run) → Stands wishes runs tally.now
-        → (format_view format ≡ Json → json.now ≡ results_json wishes runs)
+        → (format_view format ≡ Json → json.now ≡ results_json wishes runs orders)
         → OnOk result (Appends (O.contents output.old) (O.contents output.new)
-        (end_in (format_view format) wishes runs)) }
+        (end_in (format_view format) wishes runs orders)) }
     ensures left { (wishes : List wished.Condition) (runs : List Run) → Stands wishes runs tally.now
-        → (format_view format ≡ Json → json.now ≡ results_json wishes runs)
+        → (format_view format ≡ Json → json.now ≡ results_json wishes runs orders)
         → OnErr result ((count : ℕ) × Appends (O.contents output.old) (O.contents output.new)
-        (take count (end_in (format_view format) wishes runs))) }
+        (take count (end_in (format_view format) wishes runs orders))) }
     ensures err { IfErr result EndsTest }
 {
     match format {
         Format::Plain => {
-            let summary = tally.summary(alloc)?;
+            let summary = summary_of(alloc, tally, orders)?;
             write_flushed(&summary, output)
         }
         Format::Json => write_flushed(json, output),
     }
 }
 
-/// Writes what is due at the end, and flushes the output: the summary of the runs that a tally stands for, or the JSON
-/// text of their results. It gives what they come to.
+/// Writes what is due at the end, and flushes the output: the summary of the runs that a tally stands for, with this
+/// number of orders, or the JSON text of their results. It gives what they come to.
 ///
 /// # Errors
 /// `Memory` leaves nothing written. `Write` leaves a prefix of it written, or all of it if only the flush failed.
@@ -317,13 +391,14 @@ pub fn conclude<O: Write>(
     tally: &Tally,
     format: Format,
     json: &[u8],
+    orders: Option<u64>,
     output: &mut O,
 ) -> Result<Conclusion, EngineFault>
     ensures end { (wishes : List wished.Condition) (runs : List Run) → Stands wishes runs tally.now
-        → (format_view format ≡ Json → json.now ≡ results_json wishes runs)
-        → IsConcluded (format_view format) wishes runs result (O.contents output.old) (O.contents output.new) }
+        → (format_view format ≡ Json → json.now ≡ results_json wishes runs orders)
+        → IsConcluded (format_view format) wishes runs orders result (O.contents output.old) (O.contents output.new) }
     ensures err { IfErr result EndsTest }
 {
-    write_end(alloc, tally, format, json, output)?;
+    write_end(alloc, tally, format, json, orders, output)?;
     Ok(tally.conclusion())
 }

@@ -1,5 +1,5 @@
 -- What comes of what a bundle holds.
-use Rattle.std.proofs.Common.{◌≡◌, ℕ, ◌<◌, Bool, true, false, List, [], ◌∷◌, ◌++◌, length, append-nil, refl, sym, ap, subst, Some, None, Option, Ok, Err}
+use Rattle.std.proofs.Common.{◌≡◌, ℕ, ◌<◌, Bool, true, false, List, [], ◌∷◌, ◌++◌, length, append-nil, refl, sym, ap, ◌∙◌, inl, inr, subst, Some, None, Option, Ok, Err}
 use Rattle.std.specs.Prelude.{OnOk, Result}
 use Rattle.def_format.specs.Documents as documents
 use Rattle.def_format.specs.Documents.{Document, DocumentFault, InPredicate, Inquiry, IsDocument, IsRefusedDocument, Options, inquiry_of}
@@ -8,7 +8,7 @@ use Rattle.def_format.specs.RefusalWords.{document_refusal}
 use Rattle.def_format.specs.Reports.{Refusal, Refused, Report}
 use Rattle.def_judgement.specs.Findings.{names_asked}
 use Rattle.def_judgement.specs.Headline.{JudgementIsTrue}
-use Rattle.def_judgement.specs.Judgements.{IsJudgement, IsReportOfResults, ended_streams, of_refused}
+use Rattle.def_judgement.specs.Judgements.{IsJudgement, ended_streams, of_refused}
 use Rattle.def_judgement.specs.OneReport.{DocumentNotRefused, OneDocument}
 use Rattle.def_judgement.specs.Writes.{Source}
 use Rattle.judge_bundles.specs.BundleRuns.{IsOutcomeOfRead}
@@ -17,6 +17,8 @@ use Rattle.judge_runs.specs.Runs.{Reported, Unnamed}
 use Rattle.judge_runs.specs.Wishes.{Condition, first_unnamed, names_of}
 use Rattle.judge_session.proofs.SessionReports.{judged_of_results}
 use Rattle.judge_session.specs.Refusals.{IsDocumentRefusal}
+use Rattle.judge_shared.specs.SharedReports.{IsRunReport}
+use Rattle.judge_shared.specs.Sharing.{IsRunReportOfResults}
 use Rattle.pd_gather.specs.Views.{results_view}
 use Rattle.pd_gather.specs.declared.gathered.Gathered.{Gathered}
 use Rattle.pd_pred.specs.Views.{predicate_fault_view}
@@ -24,6 +26,7 @@ use Rattle.pd_spec.specs.Views.{IsFaultOf, document_view}
 use Rattle.pd_spec.specs.declared.fault.SpecFault.{SpecFault}
 use Rattle.pd_spec.specs.declared.fault.SpecFault.TheVariants as faults
 use Rattle.pd_spec.specs.declared.spec.Spec.{Spec}
+use Rattle.read_bundle.specs.PartsRead.{AreStreams}
 use Rattle.read_bundle.specs.Steps.{AreParts, HasCut, HasParts, State}
 use Rattle.read_bundle.specs.declared.fault.BundleFault.{BundleFault}
 
@@ -72,8 +75,7 @@ module _ (input : Source) (options : Options) (wishes : List Condition) where
         parts = parts.are_parts;
         holds = (
           λ read is_read. absurd (not_refused inquiry read found.0 is_read found.1),
-          right,
-          are_true inquiry (ended_streams streams) (Refused refusal) right,
+          inl (right, are_true inquiry (ended_streams streams) (Refused refusal) right),
         );
       }
 
@@ -94,31 +96,50 @@ module _ (input : Source) (options : Options) (wishes : List Condition) where
 
   -- ---- a session
 
-  pub session_held : (spec : Spec) (gathered : Gathered) (report : Report) → OneDocument → JudgementIsTrue
-      → HoldsSession options wishes input spec gathered
-      → IsReportOfResults (document_view spec) gathered.streams (results_view gathered.readings.items) report
+  pub session_held : (document : List ℕ) (spec : Spec) (gathered : Gathered) (report : Report) → OneDocument
+      → JudgementIsTrue → HoldsSession options wishes input document spec gathered
+      → IsRunReportOfResults (document_view spec) gathered.streams (results_view gathered.readings.items) report
       → IsOutcomeOfRead options wishes input (Reported report)
-  session_held spec gathered report one are_true held reported =
-      let inquiry = inquiry_of options held.document in
-      let are = held.are_streams in
-      let right : IsJudgement inquiry (ended_streams are.streams) report =
-      judged_of_results inquiry (ended_streams are.streams) (document_view spec) gathered.streams
-      (results_view gathered.readings.items) report held.is_document are.comes reported in
-      record {
-        bundle = are.are_parts.bundle;
-        is_given = are.are_parts.is_given;
-        fits = are.are_parts.fits;
-        document = held.document;
-        streams = are.streams;
-        parts = are.are_parts.are_parts;
-        holds = (
-          λ read is_read.
-              subst (λ (d : Document). first_unnamed (names_asked d) wishes ≡ None)
-              (one inquiry (document_view spec) read held.is_document is_read) held.has_wished,
-          right,
-          are_true inquiry (ended_streams are.streams) report right,
-        );
-      }
+  session_held document spec gathered report one are_true held reported = record {
+    bundle = are.are_parts.bundle;
+    is_given = are.are_parts.is_given;
+    fits = are.are_parts.fits;
+    document = document;
+    streams = are.streams;
+    parts = are.are_parts.are_parts;
+    holds = (
+      λ read is_read.
+          subst (λ (d : Document). first_unnamed (names_asked d) wishes ≡ None)
+          (one inquiry (document_view spec) read held.is_document is_read) held.has_wished,
+      of_run reported,
+    );
+  }
+    where
+      inquiry : Inquiry
+      inquiry = inquiry_of options document
+
+      are : AreStreams (document_view spec).names gathered.streams (results_view gathered.readings.items) input
+          (document ∷ [])
+      are = held.are_streams
+
+      of_run : IsRunReportOfResults (document_view spec) gathered.streams (results_view gathered.readings.items) report
+          → IsRunReport inquiry (ended_streams are.streams) report
+      of_run (inl own) =
+          let right : IsJudgement inquiry (ended_streams are.streams) report =
+          judged_of_results inquiry (ended_streams are.streams) (document_view spec) gathered.streams
+          (results_view gathered.readings.items) report held.is_document are.comes own in
+          inl (right, are_true inquiry (ended_streams are.streams) report right)
+      of_run (inr shared) = inr (
+        document_view spec,
+        shared.0,
+        record {
+          read = held.is_document;
+          results = are.comes.given_results;
+          are_results = are.comes.are_results;
+          joined = sym are.comes.same_session ∙ shared.1;
+        },
+        shared.2,
+      )
 
 -- ---- the parts that are left
 

@@ -4,11 +4,11 @@ use Rattle.def_format.specs.Bundles.{parts_of}
 use Rattle.def_format.specs.Documents.{Document, Inquiry, IsDocument, Options, inquiry_of}
 use Rattle.def_format.specs.Limits.{bundle_byte_limit}
 use Rattle.def_judgement.specs.Findings.{names_asked}
-use Rattle.def_judgement.specs.Headline.{IsTrueReport}
-use Rattle.def_judgement.specs.Judgements.{IsJudgement, ended_streams}
+use Rattle.def_judgement.specs.Judgements.{ended_streams}
 use Rattle.def_judgement.specs.Writes.{IsBrokenOff, IsTooLong, IsWholeInput, Source}
 use Rattle.judge_runs.specs.Runs.{Outcome, Reported, Unnamed, Unread}
 use Rattle.judge_runs.specs.Wishes.{Condition, first_unnamed}
+use Rattle.judge_shared.specs.SharedReports.{IsRunReport}
 
 -- the name of a run that is a bundle, in the file of this name: it ends so
 abbrev pub IsBundleName : List ℕ → Type 0
@@ -32,14 +32,13 @@ HasWished wishes inquiry =
 
 -- What comes of a document, with what is asked beside it, and of streams that have ended. The document lacks a
 -- predicate that is wished for, and this is the first name of which that is so; or it has each, or is refused, and this
--- is the report, which is true.
+-- is the report of the run, by its judgement or by that of another run of its order.
 abbrev pub IsOutcomeOfParts : List Condition → Inquiry → (streams : List (List ℕ)) → Outcome → Type 0
 IsOutcomeOfParts wishes inquiry streams (Unread file) = ⊥
 IsOutcomeOfParts wishes inquiry streams (Unnamed name) =
     (document : Document) × IsDocument inquiry document × (first_unnamed (names_asked document) wishes ≡ Some name)
 IsOutcomeOfParts wishes inquiry streams (Reported report) =
-    HasWished wishes inquiry × IsJudgement inquiry (ended_streams streams) report
-    × IsTrueReport inquiry (ended_streams streams) report
+    HasWished wishes inquiry × IsRunReport inquiry (ended_streams streams) report
 
 -- What comes of the bundle that a source with this left gave to its end, and that is within the limit.
 abbrev pub IsOutcomeOfRead : Options → List Condition → (input : Source) → Outcome → Type 0

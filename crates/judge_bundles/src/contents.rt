@@ -25,8 +25,8 @@ use std::alloc::Global;
 pub(crate) enum Contents {
     /// Nothing to judge: this comes of it.
     Known(Outcome),
-    /// A document, which has each predicate that is wished for, and what its streams gave.
-    Session(Spec, Gathered),
+    /// The bytes of a document, the document, which has each predicate that is wished for, and what its streams gave.
+    Session(Vec<u8>, Spec, Gathered),
 }
 
 /// What a bundle holds whose document is refused for this fault, once the parts that are left were read.
@@ -87,13 +87,14 @@ fn unnamed_contents<R: ByteSource>(
     Ok(Contents::Known(Outcome::Unnamed(name)))
 }
 
-/// What a bundle holds with this document, which has each predicate that is wished for: the parts that are left are
-/// read as its streams.
+/// What a bundle holds with this document, whose bytes are beside it, and which has each predicate that is wished for:
+/// the parts that are left are read as its streams.
 ///
 /// # Errors
 /// As `refused_contents`.
 fn session_contents<R: ByteSource>(
     alloc: Global,
+    document: Vec<u8>,
     spec: Spec,
     reader: &mut R,
     bundle: &mut Bundle,
@@ -101,9 +102,9 @@ fn session_contents<R: ByteSource>(
 ) -> Result<Contents, BundleFault>
     requires ready { bundle.old.ended ≡ false → R.has_ended reader.old ≡ false }
     ensures contents { IfOk result (λ contents. (input : Source) (options : Asked) (wishes : List wished.Condition)
-        (document : List ℕ) → IsDocument (inquiry_of options document) (document_view spec)
+        → IsDocument (inquiry_of options document.items) (document_view spec)
         → first_unnamed (names_of (document_view spec).predicates) wishes ≡ None
-        → HasParts begins input (R.left reader.old) (document ∷ []) bundle.old
+        → HasParts begins input (R.left reader.old) (document.items ∷ []) bundle.old
         → HoldsContents options wishes input contents) }
     ensures fit { IfOk result FitContents }
     ensures long { result ≡ Err faults.Long → (input : Source) (closed : List (List ℕ)) →
@@ -112,16 +113,17 @@ fn session_contents<R: ByteSource>(
         HasParts begins input (R.left reader.old) closed bundle.old → IsBrokenOff input }
 {
     let gathered = read_stream_parts(alloc, &spec, reader, bundle, begins)?;
-    Ok(Contents::Session(spec, gathered))
+    Ok(Contents::Session(document, spec, gathered))
 }
 
-/// What a bundle holds with this document: each predicate that is wished for is looked up in it, and then the parts
-/// that are left are read.
+/// What a bundle holds with this document, whose bytes are beside it: each predicate that is wished for is looked up in
+/// it, and then the parts that are left are read.
 ///
 /// # Errors
 /// As `refused_contents`.
 fn document_contents<R: ByteSource>(
     alloc: Global,
+    document: Vec<u8>,
     spec: Spec,
     wishes: &[Wish<'_>],
     reader: &mut R,
@@ -129,9 +131,9 @@ fn document_contents<R: ByteSource>(
     begins: bool,
 ) -> Result<Contents, BundleFault>
     requires ready { bundle.old.ended ≡ false → R.has_ended reader.old ≡ false }
-    ensures contents { IfOk result (λ contents. (input : Source) (options : Asked) (document : List ℕ)
-        → IsDocument (inquiry_of options document) (document_view spec)
-        → HasParts begins input (R.left reader.old) (document ∷ []) bundle.old
+    ensures contents { IfOk result (λ contents. (input : Source) (options : Asked)
+        → IsDocument (inquiry_of options document.items) (document_view spec)
+        → HasParts begins input (R.left reader.old) (document.items ∷ []) bundle.old
         → HoldsContents options (wishes_view wishes.now) input contents) }
     ensures fit { IfOk result FitContents }
     ensures long { result ≡ Err faults.Long → (input : Source) (closed : List (List ℕ)) →
@@ -141,7 +143,7 @@ fn document_contents<R: ByteSource>(
 {
     match first_unnamed(wishes, spec.predicates()) {
         Some(name) => unnamed_contents(alloc, name, reader, bundle, begins),
-        None => session_contents(alloc, spec, reader, bundle, begins),
+        None => session_contents(alloc, document, spec, reader, bundle, begins),
     }
 }
 
@@ -166,7 +168,15 @@ pub(crate) fn read_contents<R: ByteSource + Drop>(
     let mut bundle = Bundle::new(alloc)?;
     let (document, begins) = read_document_part(alloc, &mut reader, &mut bundle)?;
     match read_kept(alloc, &document, options) {
-        Ok(spec) => document_contents(alloc, spec, wishes, &mut reader, &mut bundle, begins),
+        Ok(spec) => document_contents(
+            alloc,
+            document,
+            spec,
+            wishes,
+            &mut reader,
+            &mut bundle,
+            begins,
+        ),
         Err(fault) => refused_contents(alloc, fault, &mut reader, &mut bundle, begins),
     }
 }

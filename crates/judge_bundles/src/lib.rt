@@ -5,15 +5,15 @@
 //! - `parts`: the parts of a bundle, as far as they are kept
 //! - `whole_parts`: reads parts of a bundle into memory
 //! - `contents`: what a bundle holds that was read to its end
-//! - `outcomes`: what comes of a run that is a bundle
+//! - `trials`: what is known of a run that is a bundle while runs before it are judged too
 #![tactic(auto)]
 
 mod contents;
 mod names;
-mod outcomes;
 mod parts;
+mod trials;
 mod whole_parts;
 
 pub use names::is_bundle_name;
-pub use outcomes::outcome_of_bundle;
+pub use trials::trial_of_bundle;
 pub use whole_parts::read_part;

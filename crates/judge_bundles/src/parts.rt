@@ -1,11 +1,12 @@
 //! The parts of a bundle, as far as they are kept.
 ghost use Rattle.def_format.specs.Documents.{IsDocument, inquiry_of};
+ghost use Rattle.def_format.specs.Limits.{document_byte_limit};
 ghost use Rattle.def_judgement.specs.Writes.{IsBrokenOff, IsTooLong, Source};
 ghost use Rattle.pd_spec.specs.Views.{IsFaultOf, document_view, options_view};
 ghost use Rattle.read_bundle.specs.PartsRead.{IsKept};
 ghost use Rattle.read_bundle.specs.Steps.{AreParts, HasParts};
 ghost use Rattle.read_bundle.specs.declared.fault.BundleFault.TheVariants as faults;
-ghost use Rattle.std.specs.Prelude.{◌≡◌, ◌++◌, Err, IfErr, IfOk, List, OnOk, false, ℕ};
+ghost use Rattle.std.specs.Prelude.{◌≡◌, ◌≤◌, ◌++◌, Err, IfErr, IfOk, List, OnOk, false, length, ℕ};
 
 use def_format::DOCUMENT_BYTE_LIMIT;
 use pd_gather::ByteSource;
@@ -13,7 +14,8 @@ use pd_spec::{Options, Spec, SpecFault};
 use read_bundle::{Bundle, BundleFault, skip_parts};
 use std::alloc::Global;
 
-/// The document in what is kept of a bundle's first part, with what is asked beside it.
+/// The document in what is kept of a bundle's first part, with what is asked beside it. If there is one, the whole part
+/// is kept.
 ///
 /// # Errors
 /// The first fault of the document, or out of memory.
@@ -26,6 +28,7 @@ pub(crate) fn read_kept(
         → IsDocument (inquiry_of (options_view options.now) part) (document_view spec)) }
     ensures fault { IfErr result (λ fault. (part : List ℕ) → IsKept kept.now part
         → IsFaultOf (inquiry_of (options_view options.now) part) fault) }
+    ensures fits { OnOk result (length kept.now ≤ document_byte_limit) }
 {
     if kept.len() > DOCUMENT_BYTE_LIMIT {
         return Err(SpecFault::Long);

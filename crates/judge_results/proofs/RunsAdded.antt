@@ -1,5 +1,5 @@
 -- Results of one more run, and the texts of all.
-use Rattle.std.proofs.Common.{◌≡◌, List, [], ◌∷◌, ◌++◌, ℕ, true, false, map, refl, sym, ap, ◌∙◌, append-nil}
+use Rattle.std.proofs.Common.{◌≡◌, List, [], ◌∷◌, ◌++◌, ℕ, true, false, map, refl, sym, ap, ◌∙◌, append-nil, Option}
 use Rattle.std.specs.Prelude.{flat_map}
 use Rattle.std.proofs.lemmas.List.{map-append}
 use Rattle.std.proofs.lemmas.List.Concat.{flat_map-append}
@@ -11,7 +11,7 @@ use Rattle.judge_runs.specs.Runs.{Run, conclusion}
 use Rattle.judge_runs.specs.Tallies.{AreCounts}
 use Rattle.judge_runs.specs.Wishes.{Condition}
 use Rattle.judge_runs.specs.declared.tally.Counts.{Counts}
-use Rattle.judge_results.specs.Results.{case_text, counts_data, junit_by, junit_head, object_data, results_data, results_json, run_data}
+use Rattle.judge_results.specs.Results.{case_text, counts_data, junit_by, junit_head, object_data, orders_data, results_data, results_json, run_data}
 use Rattle.judge_results.specs.ResultsSoFar.{AreResults, AreTexts}
 use Rattle.judge_results.specs.declared.results.Results.{Results}
 use Rattle.judge_results.specs.declared.results.Texts.{Texts}
@@ -38,13 +38,14 @@ module _ (wanted : Wanted) (wishes : List Condition) where
   }
 
   -- the texts of all
-  pub all_texts : (runs : List Run) (results : Results) (texts : Texts) (counts : Counts)
+  pub all_texts : (runs : List Run) (results : Results) (texts : Texts) (counts : Counts) (orders : Option ℕ)
       → (results.wanted.json ≡ true → (asked : List Condition) (all : List Run) → AreCounts asked all counts
-      → map view results.values.items ≡ map (run_data asked) all → texts.json.items ≡ results_json asked all)
+      → map view results.values.items ≡ map (run_data asked) all → texts.json.items ≡ results_json asked all orders)
       → (results.wanted.junit ≡ true
       → texts.junit.items ≡ junit_by (junit_head counts.all counts.fail counts.not_judged) results.cases.items)
-      → AreResults wanted wishes runs results → AreCounts wishes runs counts → AreTexts wanted wishes runs texts
-  all_texts runs results texts counts json junit are count = record {
+      → AreResults wanted wishes runs results → AreCounts wishes runs counts
+      → AreTexts wanted wishes runs orders texts
+  all_texts runs results texts counts orders json junit are count = record {
     json = λ is.
         json (ap (λ (w : Wanted). w.json) are.is_wanted ∙ is) wishes runs count (are.json is);
     junit = λ is.
@@ -58,20 +59,22 @@ module _ (wanted : Wanted) (wishes : List Condition) where
   }
 
 -- the object of runs, by their numbers and values
-object_is : (wishes : List Condition) (runs : List Run) (counts : Counts) (values : List Data)
+object_is : (wishes : List Condition) (runs : List Run) (counts : Counts) (orders : Option ℕ) (values : List Data)
     → AreCounts wishes runs counts → values ≡ map (run_data wishes) runs
-    → object_data (counts_data counts.all counts.fail counts.not_judged counts.pass) (conclusion wishes runs) values
-    ≡ results_data wishes runs
-object_is wishes runs counts values are same = rw (are.all, are.fail, are.not_judged, are.pass, same) refl
+    → object_data (counts_data counts.all counts.fail counts.not_judged counts.pass) (orders_data orders)
+    (conclusion wishes runs) values
+    ≡ results_data wishes runs orders
+object_is wishes runs counts orders values are same = rw (are.all, are.fail, are.not_judged, are.pass, same) refl
 
 -- the bytes of that object are the JSON text, without its LF
-pub json_is : (wishes : List Condition) (runs : List Run) (counts : Counts) (values : List Data) (value : Data)
-    (bytes : List ℕ) → AreCounts wishes runs counts → values ≡ map (run_data wishes) runs
-    → value ≡ object_data (counts_data counts.all counts.fail counts.not_judged counts.pass) (conclusion wishes runs)
-    values
-    → (has_float value ≡ false → bytes ≡ compact_text value) → bytes ++ line_feed ∷ [] ≡ results_json wishes runs
+pub json_is : (wishes : List Condition) (runs : List Run) (counts : Counts) (orders : Option ℕ) (values : List Data)
+    (value : Data) (bytes : List ℕ) → AreCounts wishes runs counts → values ≡ map (run_data wishes) runs
+    → value ≡ object_data (counts_data counts.all counts.fail counts.not_judged counts.pass) (orders_data orders)
+    (conclusion wishes runs) values
+    → (has_float value ≡ false → bytes ≡ compact_text value)
+    → bytes ++ line_feed ∷ [] ≡ results_json wishes runs orders
 unfolding results_json
-json_is wishes runs counts values value bytes are same made text =
-    let is : value ≡ results_data wishes runs = made ∙ object_is wishes runs counts values are same in
+json_is wishes runs counts orders values value bytes are same made text =
+    let is : value ≡ results_data wishes runs orders = made ∙ object_is wishes runs counts orders values are same in
     ap (λ (l : List ℕ). l ++ line_feed ∷ [])
-    (text (ap has_float is ∙ results_whole wishes runs) ∙ ap compact_text is)
+    (text (ap has_float is ∙ results_whole wishes runs orders) ∙ ap compact_text is)

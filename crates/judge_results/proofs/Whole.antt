@@ -1,5 +1,5 @@
 -- No number of the results is a float.
-use Rattle.std.proofs.Common.{◌≡◌, List, [], ◌∷◌, ◌++◌, Bool, true, false, map, ℕ, refl}
+use Rattle.std.proofs.Common.{◌≡◌, List, [], ◌∷◌, ◌++◌, Bool, true, false, map, ℕ, refl, Option, Some, None}
 use Rattle.std.specs.Prelude.{filter}
 use Rattle.serde_json.specs.Data.{Data}
 use Rattle.serde_json.specs.View.{items_of}
@@ -9,7 +9,7 @@ use Rattle.judge_runs.specs.Runs.{Outcome, Reported, Run, Unnamed, Unread}
 use Rattle.judge_runs.specs.Wishes.{Condition, is_broken}
 use Rattle.out_json.specs.JsonReports.{nowhere}
 use Rattle.out_json.proofs.Floats.{report_whole}
-use Rattle.judge_results.specs.Results.{broken_data, broken_datas, datas_by, judged_data, outcome_data, results_data, run_data}
+use Rattle.judge_results.specs.Results.{broken_data, broken_datas, datas_by, judged_data, orders_data, outcome_data, results_data, run_data}
 
 -- items of which none has a float
 abbrev AreWhole : List Data → Type 0
@@ -49,6 +49,14 @@ outcome_whole wishes name (Reported (Refused refusal)) = rw (report_whole [] now
 outcome_whole wishes name (Reported (Judged processes events messages answers)) =
     judged_whole name (broken_datas wishes answers) (broken_whole wishes answers)
 
-pub results_whole : (wishes : List Condition) (runs : List Run) → has_float (results_data wishes runs) ≡ false
-results_whole wishes runs =
-    rw (mapped_whole (run_data wishes) (λ (run : Run). outcome_whole wishes run.folder run.outcome) runs) refl
+orders_whole : (orders : Option ℕ) → has_float (orders_data orders) ≡ false
+orders_whole None = refl
+orders_whole (Some orders) = refl
+
+pub results_whole : (wishes : List Condition) (runs : List Run) (orders : Option ℕ)
+    → has_float (results_data wishes runs orders) ≡ false
+results_whole wishes runs orders =
+    rw (
+      orders_whole orders,
+      mapped_whole (run_data wishes) (λ (run : Run). outcome_whole wishes run.folder run.outcome) runs,
+    ) refl

@@ -1,8 +1,8 @@
 -- The results of recorded runs for other programs: one JSON object, and the XML of JUnit. The fields of each object
 -- stand in byte order of their names.
 use Rattle.std.specs.Ffi.{without_last}
-use Rattle.std.specs.Prelude.{ℕ, List, [], ◌∷◌, ◌++◌, codes, decimal, filter, flat_map, length, map}
-use Rattle.serde_json.specs.Data.{Data, string, array, object, Members, no_members}
+use Rattle.std.specs.Prelude.{ℕ, List, [], ◌∷◌, ◌++◌, codes, decimal, filter, flat_map, length, map, Option, Some, None}
+use Rattle.serde_json.specs.Data.{Data, null, string, array, object, Members, no_members}
 use Rattle.serde_json.specs.View.{items_of}
 use Rattle.serde_json.specs.Written.{compact_text}
 use Rattle.def_format.specs.Lines.{line_feed}
@@ -89,24 +89,30 @@ counts_data all fail not_judged pass =
     object (field "all" (number_data all) (field "fail" (number_data fail)
     (field "not_judged" (number_data not_judged) (field "pass" (number_data pass) no_members))))
 
+-- how many orders the runs have, if it is known
+abbrev pub orders_data : Option ℕ → Data
+orders_data None = null
+orders_data (Some orders) = number_data orders
+
 -- The object of runs with these numbers, that come to this. The field `format` has the version of this format.
-abbrev pub object_data : (counts : Data) → Conclusion → (runs : List Data) → Data
-object_data counts end runs =
-    object (field "counts" counts (field "format" (number_data 1) (field "outcome" (string (outcome_word end))
-    (field "runs" (array (items_of runs)) no_members))))
+abbrev pub object_data : (counts orders : Data) → Conclusion → (runs : List Data) → Data
+object_data counts orders end runs =
+    object (field "counts" counts (field "format" (number_data 1) (field "orders" orders
+    (field "outcome" (string (outcome_word end)) (field "runs" (array (items_of runs)) no_members)))))
 
 -- the numbers of runs of these verdicts
 abbrev pub numbers_data : List Verdict → Data
 numbers_data verdicts =
     counts_data (length verdicts) (count_of Fail verdicts) (count_of NotJudged verdicts) (count_of Pass verdicts)
 
-abbrev pub results_data : List Condition → List Run → Data
-results_data wishes runs =
-    object_data (numbers_data (map (verdict_of_run wishes) runs)) (conclusion wishes runs) (map (run_data wishes) runs)
+abbrev pub results_data : List Condition → List Run → (orders : Option ℕ) → Data
+results_data wishes runs orders =
+    object_data (numbers_data (map (verdict_of_run wishes) runs)) (orders_data orders) (conclusion wishes runs)
+    (map (run_data wishes) runs)
 
 -- the object without spaces, in one line
-unfoldable pub results_json : List Condition → List Run → List ℕ
-results_json wishes runs = compact_text (results_data wishes runs) ++ line_feed ∷ []
+unfoldable pub results_json : List Condition → List Run → (orders : Option ℕ) → List ℕ
+results_json wishes runs orders = compact_text (results_data wishes runs orders) ++ line_feed ∷ []
 
 -- ---- the XML of JUnit
 

@@ -1,5 +1,5 @@
 -- What results stand for, and their texts.
-use Rattle.std.specs.Prelude.{◌≡◌, true, List, flat_map, map}
+use Rattle.std.specs.Prelude.{◌≡◌, true, ℕ, List, flat_map, map, Option}
 use Rattle.serde_json.specs.View.{view}
 use Rattle.judge_runs.specs.Runs.{Run}
 use Rattle.judge_runs.specs.Wishes.{Condition}
@@ -14,7 +14,8 @@ pub record AreResults (wanted : Wanted) (wishes : List Condition) (runs : List R
   pub json : wanted.json ≡ true → map view results.values.items ≡ map (run_data wishes) runs
   pub junit : wanted.junit ≡ true → results.cases.items ≡ flat_map (case_text wishes) runs
 
--- these are the texts of the runs' results that are wanted
-pub record AreTexts (wanted : Wanted) (wishes : List Condition) (runs : List Run) (texts : Texts) : Type 0 where
-  pub json : wanted.json ≡ true → texts.json.items ≡ results_json wishes runs
+-- these are the texts of the runs' results that are wanted, with this number of orders
+pub record AreTexts (wanted : Wanted) (wishes : List Condition) (runs : List Run) (orders : Option ℕ)
+    (texts : Texts) : Type 0 where
+  pub json : wanted.json ≡ true → texts.json.items ≡ results_json wishes runs orders
   pub junit : wanted.junit ≡ true → texts.junit.items ≡ junit_text wishes runs

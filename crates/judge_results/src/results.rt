@@ -125,20 +125,26 @@ impl Results {
         Ok(())
     }
 
-    /// The texts of the runs, of which these are the numbers.
+    /// The texts of the runs, of which these are the numbers, and which have this many orders, if that is known.
     ///
     /// # Errors
     /// Out of memory.
-    pub fn texts(self, alloc: Global, counts: Counts) -> Result<Texts, AllocError>
+    pub fn texts(
+        self,
+        alloc: Global,
+        counts: Counts,
+        orders: Option<u64>,
+    ) -> Result<Texts, AllocError>
         ensures { IfOk result (λ texts. (wanted : wanted.Wanted) (wishes : List Condition) (all : List Run)
-            → AreResults wanted wishes all self → AreCounts wishes all counts → AreTexts wanted wishes all texts) }
+            → AreResults wanted wishes all self → AreCounts wishes all counts
+            → AreTexts wanted wishes all orders texts) }
     {
         let Results {
             wanted,
             values,
             cases,
         } = self;
-        let json = json_text(alloc, wanted.json, counts, values)?;
+        let json = json_text(alloc, wanted.json, counts, orders, values)?;
         let junit = junit_text(alloc, wanted.junit, counts, &cases)?;
         Ok(Texts { json, junit })
     }

@@ -1,5 +1,5 @@
 //! Both texts, by what they are made of.
-ghost use Rattle.judge_results.specs.Results.{counts_data, junit_by, junit_head, numbered, object_data, outcome_word, results_json, run_data};
+ghost use Rattle.judge_results.specs.Results.{counts_data, junit_by, junit_head, numbered, object_data, orders_data, outcome_word, results_json, run_data};
 ghost use Rattle.judge_runs.specs.Runs.{Run, conclusion};
 ghost use Rattle.judge_runs.specs.Tallies.{AreCounts};
 ghost use Rattle.judge_runs.specs.Wishes.{Condition};
@@ -38,18 +38,40 @@ fn counts_value(alloc: Global, counts: Counts) -> Result<Value, AllocError>
     })
 }
 
-/// The object of runs of which these are the numbers and the values.
-fn results_value(alloc: Global, counts: Counts, runs: Vec<Value>) -> Result<Value, AllocError>
-    ensures { IfOk result (λ value. (wishes : List Condition) (all : List Run) → AreCounts wishes all counts
-        → view value ≡ object_data (counts_data counts.all counts.fail counts.not_judged counts.pass)
-        (conclusion wishes all) (map view runs.items)) }
+/// How many orders the runs have, if it is known.
+fn orders_value(orders: Option<u64>) -> Value
+    ensures { view result ≡ orders_data orders }
 {
-    let numbers = counts_value(alloc, counts)?;
-    let outcome = outcome_word(counts);
-    json!(in alloc; {"counts": numbers, "format": 1u64, "outcome": outcome, "runs": runs})
+    match orders {
+        Some(number) => Value::from(number),
+        None => Value::Null,
+    }
 }
 
-/// The JSON text of runs of which these are the numbers and the values, if it is wanted.
+/// The object of runs of which these are the numbers, the number of orders and the values.
+fn results_value(
+    alloc: Global,
+    counts: Counts,
+    orders: Option<u64>,
+    runs: Vec<Value>,
+) -> Result<Value, AllocError>
+    ensures { IfOk result (λ value. (wishes : List Condition) (all : List Run) → AreCounts wishes all counts
+        → view value ≡ object_data (counts_data counts.all counts.fail counts.not_judged counts.pass)
+        (orders_data orders) (conclusion wishes all) (map view runs.items)) }
+{
+    let numbers = counts_value(alloc, counts)?;
+    let different = orders_value(orders);
+    let outcome = outcome_word(counts);
+    json!(in alloc; {
+        "counts": numbers,
+        "format": 1u64,
+        "orders": different,
+        "outcome": outcome,
+        "runs": runs
+    })
+}
+
+/// The JSON text of runs of which these are the numbers, the number of orders and the values, if it is wanted.
 ///
 /// # Errors
 /// Out of memory.
@@ -57,16 +79,17 @@ pub(crate) fn json_text(
     alloc: Global,
     is_wanted: bool,
     counts: Counts,
+    orders: Option<u64>,
     runs: Vec<Value>,
 ) -> Result<Vec<u8>, AllocError>
     ensures { IfOk result (λ text. is_wanted ≡ true → (wishes : List Condition) (all : List Run)
         → AreCounts wishes all counts → map view runs.items ≡ map (run_data wishes) all
-        → text.items ≡ results_json wishes all) }
+        → text.items ≡ results_json wishes all orders) }
 {
     if !is_wanted {
         return Ok(Vec::new(alloc));
     }
-    let value = results_value(alloc, counts, runs)?;
+    let value = results_value(alloc, counts, orders, runs)?;
     let mut text = value.to_vec(alloc)?;
     text.push(b'\n')?;
     Ok(text)

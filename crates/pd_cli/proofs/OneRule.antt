@@ -461,6 +461,7 @@ module _ (files : List ℕ → File) (options : Options) (wishes : List Conditio
     runs = h.runs;
     are_runs = h.are_runs;
     said = go h.runs h.said;
+    orders = h.orders;
     is_text = h.is_text;
   }
 

@@ -1,5 +1,5 @@
 -- Some more runs are tested after each turn.
-use Rattle.std.proofs.Common.{◌+◌, ◌∙◌, ap, arith, drop, inl, length, rules}
+use Rattle.std.proofs.Common.{◌+◌, ◌∙◌, ap, None, arith, drop, inl, length, rules}
 use Rattle.std.specs.Prelude.{is_some}
 use Rattle.std.proofs.lemmas.List.{drop_all, length-map}
 use Rattle.app_arguments.specs.Views.{format_view, names_view}
@@ -14,8 +14,9 @@ pub loop-from-init : goal.loop-from-init
 loop-from-init g c = record {
   tested = begun (g.Y.Files.FileSource.file_of c.args.world.now.files.now) (options_view c.args.test.now.options)
       (wishes_view c.args.test.now.wishes.items) (format_view c.args.test.now.format) (wanted_by c.args.test.now)
-      (names_view c.args.test.now.runs.items) (g.O.Write.contents c.args.output.now) c.new-records.result
-      (c.new-records.ensures (wishes_view c.args.test.now.wishes.items));
+      (names_view c.args.test.now.runs.items) (g.O.Write.contents c.args.output.now) c.new-tested.result.records
+      (c.new-tested.ensures.records (wishes_view c.args.test.now.wishes.items));
+  sound = c.new-tested.ensures.orders (options_view c.args.test.now.options);
   within = omega arith;
 }
 
@@ -30,9 +31,11 @@ loop-from-preserved g c =
           (drop (c.loop-from.from + length runs) all)
           (names_next c.args.test.now.runs.items c.deref.result.now runs c.loop-from.from c.deref.ensures.value
           c.runs_from-runs.ensures.next)
-          c.loop-from.records (g.O.Write.contents c.loop-from.output) (is_some c.args.test.now.pages)
-          c.test_some.new.records (names_view c.in_ok-failing.failing.items) (g.O.Write.contents c.test_some.new.output)
+          c.loop-from.tested.records (g.O.Write.contents c.loop-from.output) (is_some c.args.test.now.pages)
+          c.test_some.new.tested.records (names_view c.in_ok-failing.failing.items)
+          (g.O.Write.contents c.test_some.new.output)
           c.loop-from.invariant.tested c.in_ok-failing.ensures.tested;
+      sound = c.in_ok-failing.ensures.sound;
       within = omega (arith, c.runs_from-runs.ensures.within, ap length c.deref.ensures.value);
     }
 
@@ -46,7 +49,7 @@ returns-in_err-failing g c =
     (drop (c.loop-from.from + length runs) all)
     (names_next c.args.test.now.runs.items c.deref.result.now runs c.loop-from.from c.deref.ensures.value
     c.runs_from-runs.ensures.next)
-    c.loop-from.records (g.O.Write.contents c.loop-from.output) (g.O.Write.contents c.test_some.new.output)
+    c.loop-from.tested.records (g.O.Write.contents c.loop-from.output) (g.O.Write.contents c.test_some.new.output)
     c.loop-from.invariant.tested c.in_err-failing.ensures.left c.from_residual.result c.in_err-failing.field-0.0
     c.from_residual.ensures.1 c.in_err-failing.ensures.err
 
@@ -60,14 +63,15 @@ returns-in_err-add_pages g c =
     let old = g.O.Write.contents c.args.output.now in
     let runs = c.runs_from-runs.result.now in
     let others = drop (c.loop-from.from + length runs) all in
-    left_off files options wishes format (wanted_by c.args.test.now) all old others c.test_some.new.records
+    left_off files options wishes format (wanted_by c.args.test.now) all old others c.test_some.new.tested.records
     (g.O.Write.contents c.test_some.new.output)
     (gone_on files options wishes format (wanted_by c.args.test.now) all old (drop c.loop-from.from all)
     (names_view runs) others
     (names_next c.args.test.now.runs.items c.deref.result.now runs c.loop-from.from c.deref.ensures.value
     c.runs_from-runs.ensures.next)
-    c.loop-from.records (g.O.Write.contents c.loop-from.output) (is_some c.args.test.now.pages)
-    c.test_some.new.records (names_view c.in_ok-failing.failing.items) (g.O.Write.contents c.test_some.new.output)
+    c.loop-from.tested.records (g.O.Write.contents c.loop-from.output) (is_some c.args.test.now.pages)
+    c.test_some.new.tested.records (names_view c.in_ok-failing.failing.items)
+    (g.O.Write.contents c.test_some.new.output)
     c.loop-from.invariant.tested c.in_ok-failing.ensures.tested)
     c.from_residual-in_err-add_pages.result c.in_err-add_pages.field-0.0 c.from_residual-in_err-add_pages.ensures.1
     (inl c.in_err-add_pages.ensures)
@@ -86,17 +90,19 @@ returns-in_err-texts g c =
       c.args.test.now.runs.ok.0,
       length-map c.args.test.now.runs.items (λ name. name.now),
     )))
-    c.loop-from.records (g.O.Write.contents c.loop-from.output) c.loop-from.invariant.tested
-    (g.O.Write.contents c.loop-from.output) c.from_residual-in_err-texts.result
+    c.loop-from.tested.records (g.O.Write.contents c.loop-from.output) c.loop-from.invariant.tested
+    (g.O.Write.contents c.loop-from.output) None c.from_residual-in_err-texts.result
     (λ runs are. nothing_concluded (format_view c.args.test.now.format) (wishes_view c.args.test.now.wishes.items) runs
-    (g.O.Write.contents c.loop-from.output) c.from_residual-in_err-texts.result c.from_residual-in_err-texts.ensures.0)
+    None (g.O.Write.contents c.loop-from.output) c.from_residual-in_err-texts.result
+    c.from_residual-in_err-texts.ensures.0)
     (search rules)
 
 pub save_results-requires-clause-json : goal.save_results-requires-clause-json
 save_results-requires-clause-json g c = λ _ _ is.
     json_of_all (g.Y.Files.FileSource.file_of c.args.world.now.files.now) (options_view c.args.test.now.options)
     (wishes_view c.args.test.now.wishes.items) (wanted_by c.args.test.now) (names_view c.args.test.now.runs.items)
-    c.loop-from.records c.counts.result c.in_ok-texts.texts c.counts.ensures c.in_ok-texts.ensures
+    c.loop-from.tested.records c.counts.result c.count-different.result c.in_ok-texts.texts c.counts.ensures
+    c.in_ok-texts.ensures
     (records_of_all (g.Y.Files.FileSource.file_of c.args.world.now.files.now) (options_view c.args.test.now.options)
     (wishes_view c.args.test.now.wishes.items) (format_view c.args.test.now.format) (wanted_by c.args.test.now)
     (names_view c.args.test.now.runs.items) (g.O.Write.contents c.args.output.now)
@@ -109,14 +115,15 @@ save_results-requires-clause-json g c = λ _ _ is.
       c.args.test.now.runs.ok.0,
       length-map c.args.test.now.runs.items (λ name. name.now),
     )))
-    c.loop-from.records (g.O.Write.contents c.loop-from.output) c.loop-from.invariant.tested)
+    c.loop-from.tested.records (g.O.Write.contents c.loop-from.output) c.loop-from.invariant.tested)
     (of_file c.args.test.now is)
 
 pub save_results-requires-clause-junit : goal.save_results-requires-clause-junit
 save_results-requires-clause-junit g c = λ _ _ is.
     junit_of_all (g.Y.Files.FileSource.file_of c.args.world.now.files.now) (options_view c.args.test.now.options)
     (wishes_view c.args.test.now.wishes.items) (wanted_by c.args.test.now) (names_view c.args.test.now.runs.items)
-    c.loop-from.records c.counts.result c.in_ok-texts.texts c.counts.ensures c.in_ok-texts.ensures
+    c.loop-from.tested.records c.counts.result c.count-different.result c.in_ok-texts.texts c.counts.ensures
+    c.in_ok-texts.ensures
     (records_of_all (g.Y.Files.FileSource.file_of c.args.world.now.files.now) (options_view c.args.test.now.options)
     (wishes_view c.args.test.now.wishes.items) (format_view c.args.test.now.format) (wanted_by c.args.test.now)
     (names_view c.args.test.now.runs.items) (g.O.Write.contents c.args.output.now)
@@ -129,7 +136,7 @@ save_results-requires-clause-junit g c = λ _ _ is.
       c.args.test.now.runs.ok.0,
       length-map c.args.test.now.runs.items (λ name. name.now),
     )))
-    c.loop-from.records (g.O.Write.contents c.loop-from.output) c.loop-from.invariant.tested)
+    c.loop-from.tested.records (g.O.Write.contents c.loop-from.output) c.loop-from.invariant.tested)
     is
 
 pub returns : goal.returns
@@ -146,11 +153,12 @@ returns g c =
       c.args.test.now.runs.ok.0,
       length-map c.args.test.now.runs.items (λ name. name.now),
     )))
-    c.loop-from.records (g.O.Write.contents c.loop-from.output) c.loop-from.invariant.tested
-    (g.O.Write.contents c.conclude.new.output) c.conclude.result
+    c.loop-from.tested.records (g.O.Write.contents c.loop-from.output) c.loop-from.invariant.tested
+    (g.O.Write.contents c.conclude.new.output) c.count-different.result c.conclude.result
     (λ runs are. c.conclude.ensures.end (wishes_view c.args.test.now.wishes.items) runs are.tally
     (λ is. c.deref-2.ensures.value
     ∙ (texts_of (g.Y.Files.FileSource.file_of c.args.world.now.files.now) (options_view c.args.test.now.options)
     (wishes_view c.args.test.now.wishes.items) (wanted_by c.args.test.now) (names_view c.args.test.now.runs.items)
-    c.loop-from.records c.counts.result c.in_ok-texts.texts c.counts.ensures c.in_ok-texts.ensures runs are).json
+    c.loop-from.tested.records c.counts.result c.count-different.result c.in_ok-texts.texts c.counts.ensures
+    c.in_ok-texts.ensures runs are).json
     (of_output c.args.test.now is))) c.conclude.ensures.err

@@ -15,7 +15,8 @@ returns-in-Some-clause-contents g c =
     sym (ap (λ (all : List NamedPredicate). first_unnamed (names_of all) wishes) c.predicates.ensures)
     ∙ (sym c.first_unnamed.ensures ∙ ap name_view c.in-Some.is) in
     IfOk-weaker c.unnamed_contents.result _ _
-    (λ contents given input options document is has. given input options wishes document read is lacks has)
+    (λ contents given input options is has.
+    given input options wishes c.args.document.items read is lacks has)
     c.unnamed_contents.ensures.contents
 
 pub returns-in-None-clause-contents : goal.returns-in-None-clause-contents
@@ -26,5 +27,5 @@ returns-in-None-clause-contents g c =
     sym (ap (λ (all : List NamedPredicate). first_unnamed (names_of all) wishes) c.predicates.ensures)
     ∙ (sym c.first_unnamed.ensures ∙ ap name_view c.in-None.is) in
     IfOk-weaker c.session_contents.result _ _
-    (λ contents given input options document is has. given input options wishes document is named has)
+    (λ contents given input options is has. given input options wishes is named has)
     c.session_contents.ensures.contents

@@ -7,5 +7,5 @@ use Rattle.judge_results.proofs.texts.json_text.Goals as goal
 pub returns : goal.returns
 returns c = λ is wishes all are same.
     c.in_ok-push.ensures.items
-    ∙ json_is wishes all c.args.counts (map view c.args.runs.items) _ _ are same
+    ∙ json_is wishes all c.args.counts c.args.orders (map view c.args.runs.items) _ _ are same
     (c.in_ok-value.ensures wishes all are) c.in_ok-text.ensures.text

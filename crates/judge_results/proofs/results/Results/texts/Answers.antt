@@ -6,7 +6,7 @@ use Rattle.judge_results.proofs.results.Results.texts.Goals as goal
 
 pub returns : goal.returns
 returns c = λ wanted wishes all are count.
-    all_texts wanted wishes all c.args.self _ c.args.counts c.in_ok-json.ensures
+    all_texts wanted wishes all c.args.self _ c.args.counts c.args.orders c.in_ok-json.ensures
     (λ is. c.in_ok-junit.ensures is
     ∙ ap (junit_by (junit_head c.args.counts.all c.args.counts.fail c.args.counts.not_judged)) c.deref.ensures.value)
     are count
