@@ -12,7 +12,7 @@ use std::alloc::{AllocError, Global};
 
 /// What a variable of process `p` is worth after the first `n` events of the process.
 #[inline(always)]
-pub(crate) fn value_after(computation: &Computation<'_>, p: usize, n: u64, var: usize) -> i64
+pub fn value_after(computation: &Computation<'_>, p: usize, n: u64, var: usize) -> i64
     requires within { p < length computation.now.events }
     requires there { n ≤ event_count computation.now.events p }
     ensures { result ≡ value_after computation.now n p var }
@@ -69,7 +69,7 @@ fn kept_events(
 ///
 /// # Errors
 /// An allocation was refused.
-pub(crate) fn all_kept_events(
+pub fn all_kept_events(
     alloc: Global,
     computation: &Computation<'_>,
     named: &[Vec<usize>],

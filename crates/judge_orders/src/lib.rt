@@ -20,4 +20,7 @@ mod ranks;
 mod same;
 mod seen;
 
+pub use kept::{all_kept_events, value_after};
+pub use named::named_vars;
 pub use order::{Order, ProcessOrder, order_of};
+pub use ranks::{columns, rank};

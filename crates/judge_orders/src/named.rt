@@ -101,7 +101,7 @@ fn no_vars(alloc: Global, processes: usize) -> Result<Vec<Vec<usize>>, AllocErro
 ///
 /// # Errors
 /// An allocation was refused.
-pub(crate) fn named_vars(
+pub fn named_vars(
     alloc: Global,
     processes: usize,
     predicates: &[NamedPred],

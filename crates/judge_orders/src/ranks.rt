@@ -49,7 +49,7 @@ fn column(alloc: Global, numbers: &[u64], end: u64) -> Result<Vec<u16>, AllocErr
 ///
 /// # Errors
 /// An allocation was refused.
-pub(crate) fn columns(
+pub fn columns(
     alloc: Global,
     computation: &Computation<'_>,
     numbers: &[Vec<u64>],
@@ -70,7 +70,7 @@ pub(crate) fn columns(
 
 /// How many kept events a process has up to its event `n`, by its column.
 #[inline(always)]
-pub(crate) fn rank(column: &[u16], n: u64) -> u16
+pub fn rank(column: &[u16], n: u64) -> u16
     ensures { result ≡ slice_index column.now n }
 {
     if n < column.len() as u64 {
