@@ -1,0 +1,6 @@
+-- The zeros so far.
+use Rattle.std.proofs.Common.{◌≡◌, replicate}
+use Rattle.judge_reduced.proofs.images.zeros.Given as goal
+
+abbrev pub invariant-loop-i : goal.invariant-loop-i
+invariant-loop-i l = l.zeros.items ≡ replicate l._i 0
