@@ -6,4 +6,5 @@ pub mod KeptImages
 pub mod SameValues
 pub mod OrdersAlike
 pub mod EqualOrders
+pub mod SingleOrder
 pub mod Tried

@@ -20,13 +20,14 @@ none_kept : (r : Recorded) (p : ℕ) (vars numbers : List ℕ) → event_count r
 none_kept r p vars numbers none empty = record {
   ascend = λ i j d lt within. absurd (omega arith);
   events = λ i d within. absurd (omega arith);
+  changes = λ n (i, within, at). absurd (omega arith);
   others = λ n lt out. absurd (omega arith);
 }
 
 -- ---- one run
 
 -- what is seen of no process
-abbrev nothing_seen : ProcessOrder
+abbrev pub nothing_seen : ProcessOrder
 nothing_seen = record { values = []; known = [] }
 
 module _ (r : Recorded) (named : List (List ℕ)) (order : List ProcessOrder) (is : IsOrderOf r named order) where

@@ -7,7 +7,7 @@ use Rattle.def_orders.specs.Orders.{count_up_to}
 abbrev pub Ascend : List ℕ → Type 0
 Ascend numbers = AllPairs (λ (m n : ℕ). m < n) numbers
 
-rest_ascend : (x : ℕ) (rest : List ℕ) → Ascend (x ∷ rest) → Ascend rest
+pub rest_ascend : (x : ℕ) (rest : List ℕ) → Ascend (x ∷ rest) → Ascend rest
 rest_ascend x rest ascend i j d lt within = ascend (suc i) (suc j) d (omega arith) (omega arith)
 
 pub count_within : (numbers : List ℕ) (n : ℕ) → count_up_to numbers n ≤ length numbers

@@ -1,5 +1,5 @@
 -- The example of the definitions.
-use Rattle.std.proofs.Common.{◌≡◌, ℕ, zero, suc, ◌+◌, ◌<◌, ◌≤◌, List, [], ◌∷◌, length, get_or, pos, flat_map, Some, Contains, refl, sym, ap, ◌∙◌, inl, inr, arith, lit≤}
+use Rattle.std.proofs.Common.{◌≡◌, ◌≢◌, ℕ, zero, suc, ◌+◌, ◌<◌, ◌≤◌, List, [], ◌∷◌, length, get_or, pos, flat_map, Some, Contains, refl, sym, ap, ◌∙◌, subst, inl, inr, arith, lit≤}
 use Rattle.def_model.specs.Events.{Send, Receive, Computation, Place, place, IsBefore, IsEvent, kind_at, event_count}
 use Rattle.def_model.specs.Order.{LeadsTo, HappenedBefore, HasNoCycle, IsClock, IsUpTo}
 use Rattle.def_model.specs.Examples.{one_message}
@@ -132,16 +132,31 @@ StaysAtOthers c p n =
     (m : ℕ) → m < event_count c p → (Contains (n ∷ []) (m + 1) → ⊥)
     → values_after (from_zeros c) p (0 ∷ []) m ≡ values_after (from_zeros c) p (0 ∷ []) (m + 1)
 
-one_kept : (c : Computation) (p n : ℕ) → IsEvent c (place p n) → StaysAtOthers c p n
-    → AreKept (from_zeros c) p (0 ∷ []) (n ∷ [])
-one_kept c p n is others = record { ascend = ascend; events = events; others = others }
+-- The event after the first k of process p is its one kept event.
+one_kept : (c : Computation) (p k : ℕ) → IsEvent c (place p (k + 1)) → StaysAtOthers c p (k + 1)
+    → values_after (from_zeros c) p (0 ∷ []) k ≢ values_after (from_zeros c) p (0 ∷ []) (k + 1)
+    → AreKept (from_zeros c) p (0 ∷ []) ((k + 1) ∷ [])
+one_kept c p k is others differ =
+    record { ascend = ascend; events = events; changes = changes; others = others }
   where
-    ascend : (i j d : ℕ) → i < j → j < 1 → get_or (n ∷ []) i d < get_or (n ∷ []) j d
+    ascend : (i j d : ℕ) → i < j → j < 1 → get_or ((k + 1) ∷ []) i d < get_or ((k + 1) ∷ []) j d
     ascend i j d lt within = absurd (omega arith)
 
-    events : (k d : ℕ) → k < 1 → IsEvent c (place p (get_or (n ∷ []) k d))
+    events : (i d : ℕ) → i < 1 → IsEvent c (place p (get_or ((k + 1) ∷ []) i d))
     events zero d lt = is
-    events (suc k) d lt = absurd (omega arith)
+    events (suc i) d lt = absurd (omega arith)
+
+    changes : (n : ℕ) → Contains ((k + 1) ∷ []) (n + 1)
+        → values_after (from_zeros c) p (0 ∷ []) n ≢ values_after (from_zeros c) p (0 ∷ []) (n + 1)
+    changes n (zero, lt, at) =
+        let same : k ≡ n = omega (arith, at) in
+        subst (λ (m : ℕ).
+        values_after (from_zeros c) p (0 ∷ []) m ≢ values_after (from_zeros c) p (0 ∷ []) (m + 1)) same differ
+    changes n (suc i, lt, at) = absurd (omega (arith, lt))
+
+-- one variable that goes from 0 to 1
+from_0_to_1 : pos 0 ∷ [] ≢ pos 1 ∷ []
+from_0_to_1 same = cc
 
 -- ---- the run of the two events
 
@@ -154,7 +169,8 @@ one_sent = step_happens one_message (place 0 1) (place 1 1) (inr (109 ∷ [], re
 one_order : IsOneAfterOne one_message
 one_order =
     order_of_two one_message one_onward 1 1 refl one_sent refl refl refl refl
-    (one_kept one_message 0 1 (lit≤ tt, lit≤ tt) first) (one_kept one_message 1 1 (lit≤ tt, lit≤ tt) second) refl refl
+    (one_kept one_message 0 0 (lit≤ tt, lit≤ tt) first from_0_to_1)
+    (one_kept one_message 1 0 (lit≤ tt, lit≤ tt) second from_0_to_1) refl refl
   where
     first : StaysAtOthers one_message 0 1
     first zero lt out = absurd (out (0, lit≤ tt, refl))
@@ -196,7 +212,8 @@ others_sent = (
 others_order : IsOneAfterOne with_others
 others_order =
     order_of_two with_others others_onward 2 2 refl others_sent refl refl refl refl
-    (one_kept with_others 0 2 (lit≤ tt, lit≤ tt) first) (one_kept with_others 1 2 (lit≤ tt, lit≤ tt) second) refl refl
+    (one_kept with_others 0 1 (lit≤ tt, lit≤ tt) first from_0_to_1)
+    (one_kept with_others 1 1 (lit≤ tt, lit≤ tt) second from_0_to_1) refl refl
   where
     first : StaysAtOthers with_others 0 2
     first zero lt out = refl

@@ -1,9 +1,15 @@
--- The law of equal orders, stated for every two runs, of any number of processes and events.
+-- The laws of orders, stated for all runs, of any number of processes and events.
 use Rattle.std.specs.Prelude.{◌≡◌, ◌↔◌, ℕ, ◌≤◌, List, length}
 use Rattle.def_model.specs.Observations.{Definitely, Possibly}
 use Rattle.def_model.specs.Order.{HasNoCycle}
 use Rattle.def_model.specs.Predicates.{Predicate, Recorded, test_of}
 use Rattle.def_orders.specs.Orders.{IsOrderOf, IsOver, ProcessOrder}
+
+-- A run has one order.
+abbrev pub OrderIsSingle : Type 0
+OrderIsSingle =
+    (r : Recorded) (named : List (List ℕ)) (order other : List ProcessOrder) → IsOrderOf r named order
+    → IsOrderOf r named other → order ≡ other
 
 -- the same is seen of two runs that begin with the same values
 pub record HaveOneOrder (r r' : Recorded) (named : List (List ℕ)) (order : List ProcessOrder) : Type 0 where

@@ -1,6 +1,6 @@
 -- What is seen of a run if only some variables are: the events that set one of them to another value, what the
 -- variables are worth after each of these, and the order of happened-before among these.
-use Rattle.std.specs.Prelude.{⊤, ◌≡◌, ℕ, ◌+◌, ◌<◌, List, [], ◌∷◌, All, AllPairs, Contains, ℤ, filter, flat_map, length, map, nat_le, slice_index, slice_index_or}
+use Rattle.std.specs.Prelude.{⊤, ◌≡◌, ◌≢◌, ℕ, ◌+◌, ◌<◌, List, [], ◌∷◌, All, AllPairs, Contains, ℤ, filter, flat_map, length, map, nat_le, slice_index, slice_index_or}
 use Rattle.std.specs.List.{AllZip}
 use Rattle.def_model.specs.Events.{IsEvent, Place, event_count, place}
 use Rattle.def_model.specs.Order.{IsClock}
@@ -35,11 +35,12 @@ IsOver named (Or left right) = IsOver named left × IsOver named right
 abbrev pub values_after : Recorded → ℕ → List ℕ → ℕ → List ℤ
 values_after r p vars n = map (λ v. value_after r n p v) vars
 
--- These are the numbers of the events of process p that are kept: they ascend, and each other event leaves these
--- variables as they were.
+-- These are the numbers of the events of process p that are kept: they ascend, each of these events leaves one of these
+-- variables with another value, and each other event leaves them as they were.
 pub record AreKept (r : Recorded) (p : ℕ) (vars numbers : List ℕ) : Type 0 where
   pub ascend : AllPairs (λ (m n : ℕ). m < n) numbers
   pub events : All (λ n. IsEvent r.events (place p n)) numbers
+  pub changes : (n : ℕ) → Contains numbers (n + 1) → values_after r p vars n ≢ values_after r p vars (n + 1)
   pub others : (n : ℕ) → n < event_count r.events p → (¬ Contains numbers (n + 1))
       → values_after r p vars n ≡ values_after r p vars (n + 1)
 

@@ -3,7 +3,12 @@
 #![tactic(auto)]
 
 ghost use Rattle.def_orders.specs.Examples.{OthersAreNotSeen};
-ghost use Rattle.def_orders.specs.Laws.{DefinitelyOfOrder, PossiblyOfOrder};
+ghost use Rattle.def_orders.specs.Laws.{DefinitelyOfOrder, OrderIsSingle, PossiblyOfOrder};
+
+/// A run has one order: of one run, nothing else can be seen of the same variables.
+pub fn order_is_single()
+    ensures { OrderIsSingle }
+{}
 
 /// Runs of one order have the same answers for each predicate of which all variables are seen.
 pub fn one_order()

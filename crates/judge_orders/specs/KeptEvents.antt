@@ -1,5 +1,5 @@
 -- Which events are kept.
-use Rattle.std.specs.Prelude.{◌≡◌, ℕ, ◌+◌, ◌<◌, ◌≤◌, List, [], All, AllPairs, Contains, length, slice_index_or}
+use Rattle.std.specs.Prelude.{◌≡◌, ◌≢◌, ℕ, ◌+◌, ◌<◌, ◌≤◌, List, [], All, AllPairs, Contains, length, slice_index_or}
 use Rattle.def_model.specs.Events.{IsEvent, place}
 use Rattle.def_model.specs.Predicates.{Recorded}
 use Rattle.def_orders.specs.Orders.{AreKept, values_after}
@@ -9,6 +9,7 @@ pub record AreKeptUpTo (r : Recorded) (p : ℕ) (vars numbers : List ℕ) (k : �
   pub ascend : AllPairs (λ (m n : ℕ). m < n) numbers
   pub events : All (λ n. IsEvent r.events (place p n)) numbers
   pub within : All (λ n. n ≤ k) numbers
+  pub changes : (n : ℕ) → Contains numbers (n + 1) → values_after r p vars n ≢ values_after r p vars (n + 1)
   pub others : (n : ℕ) → n < k → (¬ Contains numbers (n + 1))
       → values_after r p vars n ≡ values_after r p vars (n + 1)
 

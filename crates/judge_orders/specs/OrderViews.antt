@@ -1,9 +1,10 @@
 -- What the order of a run stands for.
-use Rattle.std.specs.Prelude.{ℕ, ◌<◌, List, [], All, map, slice_index_or}
+use Rattle.std.specs.Prelude.{ℕ, ◌<◌, List, [], All, length, map, slice_index_or}
 use Rattle.def_format.specs.Documents.{Document, NamedPredicate}
 use Rattle.def_model.specs.Predicates.{Recorded}
 use Rattle.def_orders.specs.Orders as orders
 use Rattle.def_orders.specs.Orders.{IsOrderOf, IsOver, IsSeenOf}
+use Rattle.judge_orders.specs.Growth.{SeeNoOther}
 use Rattle.judge_orders.specs.Lists.{lists_view}
 use Rattle.judge_orders.specs.declared.order.Order.{Order}
 use Rattle.judge_orders.specs.declared.order.ProcessOrder.{ProcessOrder}
@@ -25,7 +26,8 @@ AllSeen r named numbers seen k =
     (p : ℕ) (of : orders.ProcessOrder) → p < k
     → IsSeenOf r (slice_index_or named p []) numbers p (slice_index_or seen p of)
 
--- It is the order of what was recorded, by the variables that the document's predicates name.
+-- It is the order of what was recorded, by the variables that the document's predicates name, and by no others.
 pub record HasOrder (document : Document) (r : Recorded) (order : Order) : Type 0 where
   pub is_order : IsOrderOf r (named_view order) (processes_view order)
   pub over : All (λ (asked : NamedPredicate). IsOver (named_view order) asked.predicate) document.predicates
+  pub just : SeeNoOther (named_view order) (length r.events) document.predicates

@@ -5,7 +5,7 @@ ghost use Rattle.def_model.specs.Events.{event_count};
 ghost use Rattle.def_orders.specs.Orders.{AreKept, values_after};
 ghost use Rattle.judge_orders.specs.KeptEvents.{AllKept};
 ghost use Rattle.judge_orders.specs.Lists.{lists_view};
-ghost use Rattle.std.specs.Prelude.{◌≡◌, ◌+◌, ◌<◌, ◌≤◌, IfOk, false, length};
+ghost use Rattle.std.specs.Prelude.{◌≡◌, ◌≢◌, ◌+◌, ◌<◌, ◌≤◌, IfOk, false, length, true};
 
 use pd_clock::Computation;
 use std::alloc::{AllocError, Global};
@@ -26,8 +26,10 @@ fn is_kept(computation: &Computation<'_>, p: usize, n: u64, vars: &[usize]) -> b
     requires within { p < length computation.now.events }
     requires there { n < event_count computation.now.events p }
     requires short { event_count computation.now.events p ≤ event_limit }
-    ensures { result ≡ false
+    ensures same { result ≡ false
         → values_after computation.now p vars.now n ≡ values_after computation.now p vars.now (n + 1) }
+    ensures changes { result ≡ true
+        → values_after computation.now p vars.now n ≢ values_after computation.now p vars.now (n + 1) }
 {
     for &var in vars {
         if value_after(computation, p, n, var) != value_after(computation, p, n + 1, var) {

@@ -1,11 +1,11 @@
 //! The variables that a document's predicates name.
 ghost use Rattle.def_format.specs.Documents.{NamedPredicate};
 ghost use Rattle.def_orders.specs.Orders.{IsOver, SumIsOver, TermIsOver};
-ghost use Rattle.judge_orders.specs.Growth.{Grows};
+ghost use Rattle.judge_orders.specs.Growth.{AddsNoOther, Grows, SeeNoOther};
 ghost use Rattle.judge_orders.specs.Lists.{lists_view};
 ghost use Rattle.pd_pred.specs.Trees.{sum_view, term_view, tree_view};
 ghost use Rattle.pd_spec.specs.Named.{named_view};
-ghost use Rattle.std.specs.Prelude.{◌≡◌, ◌<◌, ℕ, [], All, Contains, IfOk, length, map, slice_index_or};
+ghost use Rattle.std.specs.Prelude.{◌≡◌, ◌<◌, ◌⊎◌, ℕ, [], List, All, Contains, IfOk, length, map, slice_index_or};
 
 use pd_pred::{Sum, Term, Tree};
 use pd_spec::NamedPred;
@@ -15,6 +15,7 @@ use std::alloc::{AllocError, Global};
 fn push_new(vars: &mut Vec<usize>, var: usize) -> Result<(), AllocError>
     ensures stay { IfOk result (λ _. (v : ℕ) → Contains vars.old.items v → Contains vars.new.items v) }
     ensures there { IfOk result (λ _. Contains vars.new.items var) }
+    ensures just { IfOk result (λ _. (v : ℕ) → Contains vars.new.items v → Contains vars.old.items v ⊎ (var ≡ v)) }
 {
     if !vars.contains(&var) {
         vars.push(var)?;
@@ -27,6 +28,8 @@ fn name_var(named: &mut Vec<Vec<usize>>, process: usize, var: usize) -> Result<(
     ensures grows { IfOk result (λ _. Grows (lists_view named.old.items) (lists_view named.new.items)) }
     ensures there { IfOk result (λ _. process < length (lists_view named.new.items)
         → Contains (slice_index_or (lists_view named.new.items) process []) var) }
+    ensures just { IfOk result (λ _. AddsNoOther (lists_view named.old.items) (lists_view named.new.items)
+        (λ (lists : List (List ℕ)). process < length lists → Contains (slice_index_or lists process []) var)) }
 {
     if process < named.len() {
         push_new(&mut named[process], var)?;
@@ -38,6 +41,8 @@ fn name_var(named: &mut Vec<Vec<usize>>, process: usize, var: usize) -> Result<(
 fn name_term(named: &mut Vec<Vec<usize>>, term: Term) -> Result<(), AllocError>
     ensures grows { IfOk result (λ _. Grows (lists_view named.old.items) (lists_view named.new.items)) }
     ensures over { IfOk result (λ _. TermIsOver (lists_view named.new.items) (term_view term)) }
+    ensures just { IfOk result (λ _. AddsNoOther (lists_view named.old.items) (lists_view named.new.items)
+        (λ (lists : List (List ℕ)). TermIsOver lists (term_view term))) }
 {
     match term {
         Term::Number(_) => Ok(()),
@@ -50,6 +55,8 @@ fn name_term(named: &mut Vec<Vec<usize>>, term: Term) -> Result<(), AllocError>
 fn name_sum(named: &mut Vec<Vec<usize>>, sum: &Sum) -> Result<(), AllocError>
     ensures grows { IfOk result (λ _. Grows (lists_view named.old.items) (lists_view named.new.items)) }
     ensures over { IfOk result (λ _. SumIsOver (lists_view named.new.items) (sum_view sum.now)) }
+    ensures just { IfOk result (λ _. AddsNoOther (lists_view named.old.items) (lists_view named.new.items)
+        (λ (lists : List (List ℕ)). SumIsOver lists (sum_view sum.now))) }
 {
     for signed in &sum.terms {
         name_term(named, signed.term)?;
@@ -61,6 +68,8 @@ fn name_sum(named: &mut Vec<Vec<usize>>, sum: &Sum) -> Result<(), AllocError>
 fn name_tree(named: &mut Vec<Vec<usize>>, tree: &Tree) -> Result<(), AllocError>
     ensures grows { IfOk result (λ _. Grows (lists_view named.old.items) (lists_view named.new.items)) }
     ensures over { IfOk result (λ _. IsOver (lists_view named.new.items) (tree_view tree.now)) }
+    ensures just { IfOk result (λ _. AddsNoOther (lists_view named.old.items) (lists_view named.new.items)
+        (λ (lists : List (List ℕ)). IsOver lists (tree_view tree.now))) }
 {
     match tree {
         Tree::Always => Ok(()),
@@ -86,7 +95,9 @@ fn name_tree(named: &mut Vec<Vec<usize>>, tree: &Tree) -> Result<(), AllocError>
 
 /// A list of no variable for each process.
 fn no_vars(alloc: Global, processes: usize) -> Result<Vec<Vec<usize>>, AllocError>
-    ensures { IfOk result (λ named. length named.items ≡ processes) }
+    ensures one_each { IfOk result (λ named. length named.items ≡ processes) }
+    ensures none { IfOk result (λ named. (lists : List (List ℕ)) → length lists ≡ processes
+        → Grows (lists_view named.items) lists) }
 {
     let mut named = Vec::with_capacity(alloc, processes)?;
     for _process in 0..processes {
@@ -109,6 +120,8 @@ pub fn named_vars(
     ensures one_each { IfOk result (λ named. length named.items ≡ processes) }
     ensures over { IfOk result (λ named. All (λ (asked : NamedPredicate). IsOver (lists_view named.items)
         asked.predicate) (map named_view predicates.now)) }
+    ensures just { IfOk result (λ named. SeeNoOther (lists_view named.items) processes
+        (map named_view predicates.now)) }
 {
     let mut named = no_vars(alloc, processes)?;
     for predicate in predicates {

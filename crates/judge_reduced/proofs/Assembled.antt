@@ -14,6 +14,7 @@ use Rattle.def_orders.proofs.KeptImages.{is_listed}
 use Rattle.read_traces.specs.SessionTraces.{AreTraces}
 use Rattle.read_traces.specs.Views.{computation_view}
 use Rattle.read_traces.specs.declared.event.Trace.{Trace}
+use Rattle.judge_orders.specs.Growth.{SeeNoOther}
 use Rattle.judge_orders.specs.KeptEvents.{AllKept}
 use Rattle.judge_reduced.specs.Planned.{AreListed, AreWhole, IsWhole}
 use Rattle.judge_reduced.specs.Plans.{AreReduced, IsReducedRun}
@@ -77,6 +78,7 @@ kept_none : (r : Recorded) (p : ℕ) (vars numbers : List ℕ) → event_count r
 kept_none r p vars numbers none empty = record {
   ascend = λ i j d lt within. absurd (omega arith);
   events = λ i d within. absurd (omega arith);
+  changes = λ n (i, within, at). absurd (omega arith);
   others = λ n lt out. absurd (omega arith);
 }
 
@@ -157,8 +159,9 @@ module _ (r : Recorded) (named numbers : List (List ℕ)) (all_named : length na
   pub is_reduction : (document : Document) (traces : List Trace) → HasNoCycle r.events
       → length r.events ≡ length document.names
       → All (λ (asked : NamedPredicate). IsOver named asked.predicate) document.predicates
+      → SeeNoOther named (length r.events) document.predicates
       → AreWhole document.names r named numbers (length r.events) traces → IsReductionOf document r traces
-  is_reduction document traces acyclic long over whole = go (places_there document.names traces whole)
+  is_reduction document traces acyclic long over just whole = go (places_there document.names traces whole)
     where
       go : (places : List (List ℕ)) × (length places ≡ length r.events)
           × ((p : ℕ) → p < length r.events → IsPlace document.names traces whole p (get_or places p []))
@@ -173,6 +176,10 @@ module _ (r : Recorded) (named numbers : List (List ℕ)) (all_named : length na
             kept' = is_listed places;
             made = λ k d lt. is_made r (reduced_view r traces) named numbers places refl is
                 (get_or document.predicates k d).predicate (over k d lt);
+            numbers = numbers;
+            are_kept = record { named = named; one_each = all_named; over = over; just = just; kept = kept };
+            places = places;
+            events = is;
           }
 
 -- ---- one trace more

@@ -14,3 +14,5 @@ pub mod ReceiptSteps
 pub mod ImageSteps
 pub mod Assembled
 pub mod Answering
+pub mod Naming
+pub mod Counting

@@ -3,4 +3,5 @@ pub mod SettingLists
 pub mod Plans
 pub mod Planned
 pub mod Reductions
+pub mod Bounds
 pub mod Laws

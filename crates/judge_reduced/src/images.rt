@@ -7,7 +7,7 @@ ghost use Rattle.judge_orders.specs.Lists.{lists_view};
 ghost use Rattle.judge_reduced.specs.Planned.{AddsImage, AreListed, IsPlannedWith, IsWhole};
 ghost use Rattle.judge_orders.specs.Ranked.{HaveColumns};
 ghost use Rattle.pd_spec.specs.Views.{document_view};
-ghost use Rattle.std.specs.Prelude.{◌≡◌, ◌<◌, ◌≤◌, ℕ, [], List, All, IfOk, IfSome, length, replicate, slice_index_or, true};
+ghost use Rattle.std.specs.Prelude.{◌≡◌, ◌*◌, ◌<◌, ◌≤◌, ℕ, [], List, All, IfOk, IfSome, IsSome, false, length, replicate, slice_index_or, true};
 
 use super::ids::id_of;
 use super::receipts::{kept_count, number_at, push_receipts};
@@ -28,7 +28,8 @@ fn var_count(spec: &Spec, p: usize) -> usize
 
 /// Whether these variables are all below `count`.
 fn are_below(vars: &[usize], count: usize) -> bool
-    ensures { result ≡ true → All (λ v. v < count) vars.now }
+    ensures yes { result ≡ true → All (λ v. v < count) vars.now }
+    ensures no { result ≡ false → ¬ All (λ v. v < count) vars.now }
 {
     for &var in vars {
         if var >= count {
@@ -99,8 +100,10 @@ fn process_events(
     requires process { p < length computation.now.events }
     requires few { length (slice_index_or (lists_view numbers.now) p []) ≤ event_limit }
     requires vars { All (λ v. v < count) vars.now }
-    ensures { IfOk result (λ events. IsPlannedWith count computation.now vars.now (lists_view numbers.now) p
+    ensures planned { IfOk result (λ events. IsPlannedWith count computation.now vars.now (lists_view numbers.now) p
         (length (slice_index_or (lists_view numbers.now) p [])) events) }
+    ensures few { IfOk result (λ events. length events
+        ≤ length (slice_index_or (lists_view numbers.now) p []) * length computation.now.events) }
 {
     let mut events = Events::new(alloc);
     let mut last = zeros(alloc, numbers.len())?;
@@ -152,8 +155,11 @@ pub(crate) fn limited_events(
     requires columns { HaveColumns computation.now.events (lists_view numbers.now) (lists_view columns.now)
         (length computation.now.events) }
     requires process { p < length computation.now.events }
-    ensures { IfOk result (λ found. IfSome found (λ events. IsWhole (document_view spec.now).names computation.now
-        vars.now (lists_view numbers.now) p events)) }
+    ensures whole { IfOk result (λ found. IfSome found (λ events. IsWhole (document_view spec.now).names
+        computation.now vars.now (lists_view numbers.now) p events)) }
+    ensures some { All (λ v. v < length (vars_of (document_view spec.now).names p)) vars.now
+        → length (slice_index_or (lists_view numbers.now) p []) * length computation.now.events ≤ event_limit
+        → IfOk result IsSome }
 {
     let count = var_count(spec, p);
     if kept_count(numbers, p) > EVENT_LIMIT || !are_below(vars, count) {

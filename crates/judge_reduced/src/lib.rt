@@ -8,6 +8,7 @@
 //! - `reduced`: the reduction of a run
 #![tactic(auto)]
 
+ghost use Rattle.judge_reduced.specs.Bounds.{DocumentsNameTheirVars, FewEventsFewKept};
 ghost use Rattle.judge_reduced.specs.Laws.{DefinitelyOfReducedRun, PossiblyOfReducedRun};
 
 mod ids;
@@ -22,4 +23,11 @@ pub use reduced::reduced_run;
 pub fn answers()
     ensures possibly { PossiblyOfReducedRun }
     ensures definitely { DefinitelyOfReducedRun }
+{}
+
+/// What makes that there is a reduction: that predicates name variables of the document, and that few events are kept.
+/// It has no code.
+pub fn bounds()
+    ensures vars { DocumentsNameTheirVars }
+    ensures few { FewEventsFewKept }
 {}

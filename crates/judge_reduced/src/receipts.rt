@@ -2,7 +2,7 @@
 ghost use Rattle.judge_orders.specs.Lists.{lists_view};
 ghost use Rattle.judge_reduced.specs.Planned.{AreListed, ComesThrough, GoesOn, HasReceived, IsKnown};
 ghost use Rattle.judge_orders.specs.Ranked.{HaveColumns};
-ghost use Rattle.std.specs.Prelude.{◌≡◌, ◌≢◌, ◌<◌, ◌≤◌, [], IfOk, length, slice_index, slice_index_or, true};
+ghost use Rattle.std.specs.Prelude.{◌≡◌, ◌≢◌, ◌+◌, ◌<◌, ◌≤◌, [], IfOk, length, slice_index, slice_index_or, true};
 
 use super::ids::id_of;
 use judge_orders::rank;
@@ -177,6 +177,8 @@ pub(crate) fn push_receipts(
     ensures last { IfOk result (λ _. length last.new.items ≡ length computation.now.events) }
     ensures planned { IfOk result (λ _. GoesOn computation.now (lists_view numbers.now) p i
         (length computation.now.events) events.old events.new last.old.items last.new.items) }
+    // At most one for each other process.
+    ensures few { IfOk result (λ _. length events.new + 1 ≤ length events.old + length computation.now.events) }
 {
     computation.limits();
     for q in 0..columns.len() {

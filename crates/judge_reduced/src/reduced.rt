@@ -1,10 +1,11 @@
 //! The reduction of a run.
 ghost use Rattle.judge_orders.specs.Lists.{lists_view};
+ghost use Rattle.judge_reduced.specs.Bounds.{AreFew, AreTheirVars, HaveFewKept, NameTheirVars};
 ghost use Rattle.judge_reduced.specs.Planned.{AreListed, AreWhole};
 ghost use Rattle.judge_orders.specs.Ranked.{HaveColumns};
 ghost use Rattle.judge_reduced.specs.Reductions.{IsReductionOf};
 ghost use Rattle.pd_spec.specs.Views.{document_view};
-ghost use Rattle.std.specs.Prelude.{◌≡◌, IfOk, IfSome, length};
+ghost use Rattle.std.specs.Prelude.{◌≡◌, IfOk, IfSome, IsSome, length};
 
 use super::images::limited_events;
 use judge_orders::{all_kept_events, columns, named_vars};
@@ -33,8 +34,11 @@ fn reduced_traces(
     requires one_each { length columns.now ≡ length computation.now.events }
     requires columns { HaveColumns computation.now.events (lists_view numbers.now) (lists_view columns.now)
         (length computation.now.events) }
-    ensures { IfOk result (λ found. IfSome found (λ traces. AreWhole (document_view spec.now).names computation.now
-        (lists_view named.now) (lists_view numbers.now) (length computation.now.events) traces.items)) }
+    ensures whole { IfOk result (λ found. IfSome found (λ traces. AreWhole (document_view spec.now).names
+        computation.now (lists_view named.now) (lists_view numbers.now) (length computation.now.events)
+        traces.items)) }
+    ensures some { AreTheirVars (document_view spec.now).names (lists_view named.now) (length computation.now.events)
+        → AreFew (lists_view numbers.now) (length computation.now.events) → IfOk result IsSome }
 {
     let mut traces = Vec::with_capacity(alloc, named.len())?;
     for p in 0..named.len() {
@@ -52,7 +56,9 @@ fn reduced_traces(
 }
 
 /// The reduction of a run of this document, or `None` if a process of it would have more than 10,000 events, its
-/// receipts among them, or a predicate names a variable that the document doesn't have.
+/// receipts among them, or a predicate names a variable that the document doesn't have. No predicate of a document that
+/// was read does. So there is a reduction at least if each process's kept events times the number of processes are at
+/// most 10,000: before a kept event come no more receipts than there are other processes.
 ///
 /// An event is kept if it sets a variable that a predicate names to another value. In the reduction each process has
 /// its kept events, each of which sends a message and sets the variables of the process that predicates name to what
@@ -75,6 +81,8 @@ pub fn reduced_run(
     requires names { length computation.now.events ≡ length (document_view spec.now).names }
     ensures made { IfOk result (λ found. IfSome found (λ traces.
         IsReductionOf (document_view spec.now) computation.now traces.items)) }
+    ensures some { NameTheirVars (document_view spec.now) → HaveFewKept (document_view spec.now) computation.now
+        → IfOk result IsSome }
 {
     computation.limits();
     let named = named_vars(alloc, computation.processes(), spec.predicates())?;

@@ -1,4 +1,5 @@
 -- The modules of lemmas of this crate.
+pub mod EntryFacts
 pub mod FreshTruths
 pub mod KnownTruths
 pub mod RunFacts

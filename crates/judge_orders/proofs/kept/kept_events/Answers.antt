@@ -14,10 +14,11 @@ loop-n-preserved c =
       | then-is_kept+in_ok-push w ↦
           subst (λ (numbers : List ℕ). AreKeptUpTo r c.args.p c.args.vars.now numbers (c.loop-n.n + 1))
           (sym w.in_ok-push.ensures.items ∙ ap (λ (numbers : Vec ℕ Global). numbers.items) (sym w.numbers-is))
-          (kept_more r c.args.p c.args.vars.now c.loop-n.numbers.items c.loop-n.n c.loop-n.invariant (omega arith))
+          (kept_more r c.args.p c.args.vars.now c.loop-n.numbers.items c.loop-n.n c.loop-n.invariant (omega arith)
+          (w.if-is_kept.ensures.changes refl))
       | else-is_kept w ↦
           subst (λ (numbers : Vec ℕ Global).
           AreKeptUpTo r c.args.p c.args.vars.now numbers.items (c.loop-n.n + 1)) (sym w.numbers-is)
           (kept_same r c.args.p c.args.vars.now c.loop-n.numbers.items c.loop-n.n c.loop-n.invariant
-          (w.if-is_kept.ensures refl))
+          (w.if-is_kept.ensures.same refl))
     ]

@@ -5,7 +5,9 @@ use Rattle.std.specs.Global.{Global}
 use Rattle.std.proofs.lemmas.List.{length-map}
 use Rattle.def_format.specs.Documents.{NamedPredicate}
 use Rattle.def_orders.specs.Orders.{IsOver}
+use Rattle.pd_spec.specs.Views.{document_view}
 use Rattle.judge_orders.specs.KeptEvents.{AllAscend, AllKept}
+use Rattle.judge_orders.specs.Growth.{SeeNoOther}
 use Rattle.judge_orders.specs.Lists.{lists_view}
 use Rattle.judge_orders.specs.OrderViews.{AllSeen, process_view}
 use Rattle.judge_orders.proofs.Keeping.{all_ascend}
@@ -49,5 +51,9 @@ returns c =
         over = subst
             (All (λ (asked : NamedPredicate). IsOver (lists_view c.in_ok-named.named.items) asked.predicate))
             c.predicates.ensures c.in_ok-named.ensures.over;
+        just = subst (λ (k : ℕ). SeeNoOther (lists_view c.in_ok-named.named.items) k
+            (document_view c.args.spec.now).predicates) c.processes.ensures
+            (subst (SeeNoOther (lists_view c.in_ok-named.named.items) c.processes.result) c.predicates.ensures
+            c.in_ok-named.ensures.just);
       };
     }

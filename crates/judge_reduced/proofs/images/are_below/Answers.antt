@@ -10,7 +10,7 @@ loop-var-preserved c =
     (All-push (λ v. v < c.args.count) (take c.loop-var.var-index c.args.vars.now) _ c.loop-var.invariant
     (omega (arith, c.if-var-count.false)))
 
-pub returns : goal.returns
-returns c = λ same.
+pub returns-clause-yes : goal.returns-clause-yes
+returns-clause-yes c = λ same.
     subst (All (λ v. v < c.args.count)) (take_all c.loop-var.var-index c.args.vars.now c.loop-var-test.false)
     c.loop-var.invariant
