@@ -11,7 +11,8 @@ says all answers.
 The orders are counted from their definition in docs/SPECIFICATION.md: happened-before is closed as a relation, and an
 order is the set of pairs of it among the events that set a named variable to another value, with these values. What a
 run's own answers are says `judge --beyond-width`. They are expected in its line, unless one is unknown and an earlier
-run of the same document and order has no unknown one: then those of the plain judge in `drawn.py` are, of whatever
+run of the same document and order has no unknown one, or its reduction has none, which is made here by the rule in
+docs/LONG-RUNS.md and judged by `judge --beyond-width`: then those of the plain judge in `drawn.py` are, of whatever
 width. With any number of jobs, and of folders and bundles, the text has to be the same, and the object of `--json`.
 
 Then runs are tested that are made to have large orders, of which ten fit into the memory that the program has for them.
@@ -45,7 +46,8 @@ EVENTS, MORE = 14, 8
 SETS = 150
 WANTED = {"runs": 600, "refused": 12, "of an order that came before": 250, "of a new order": 150,
           "unknown": 25, "unknown, and known by an earlier run": 3, "unknown in part": 20,
-          "unknown, and known by a later run": 3, "two documents": 10, "asked": 20}
+          "unknown, and known by its reduction": 5,
+          "two documents": 10, "asked": 20}
 
 # Of the runs with large orders: the processes, the variables of each and its events. An order has 8 bytes for each
 # value after an event, and 2 for each count.
@@ -62,22 +64,53 @@ def named_variables(predicates):
             for terms in comparison[1:] for _, _, reference in terms if reference}
 
 
-def order_of(session, predicates):
-    """What is seen of a run: for each process the values that an event sets a named variable to, and which of these
-    events happened before each other."""
+def kept_events(session, predicates):
+    """The values of the named variables of a process after so many events, as a function, and for each process the
+    numbers of the events that set one of them to another value."""
     named = named_variables(predicates)
 
     def values(process, count):
         return tuple(sorted((name, session.value_at(process, count, name)) for of, name in named if of == process))
-    kept = [[number for number in range(1, len(events) + 1)
-             if values(process, number) != values(process, number - 1)]
-            for process, events in enumerate(session.events)]
+    return values, [[number for number in range(1, len(events) + 1)
+                     if values(process, number) != values(process, number - 1)]
+                    for process, events in enumerate(session.events)]
+
+
+def order_of(session, predicates):
+    """What is seen of a run: for each process the values that an event sets a named variable to, and which of these
+    events happened before each other."""
+    values, kept = kept_events(session, predicates)
     seen = {(process, number): (process, at) for process, numbers in enumerate(kept)
             for at, number in enumerate(numbers)}
     before = frozenset((seen[first], seen[later]) for first, later in happened_before(session)
                        if first in seen and later in seen)
     changes = tuple(tuple(values(process, number) for number in numbers) for process, numbers in enumerate(kept))
     return changes, before
+
+
+def reduction(session, predicates):
+    """The events of the reduction of a run: each kept event sends a message and sets what is named to what it is worth
+    then, after a receipt from each latest kept event of another process that happened before it, unless that one was
+    known before or another kept event lies between."""
+    values, kept = kept_events(session, predicates)
+    before = happened_before(session)
+    places = [(process, number) for process, numbers in enumerate(kept) for number in numbers]
+    reduced = []
+    for process, numbers in enumerate(kept):
+        events, known = [], {}
+        for number in numbers:
+            here = process, number
+            for other in range(len(kept)):
+                earlier = [it for it in kept[other] if other != process and ((other, it), here) in before]
+                if not earlier or known.get(other, 0) >= earlier[-1]:
+                    continue
+                last = other, earlier[-1]
+                known[other] = earlier[-1]
+                if not any((last, it) in before and (it, here) in before for it in places):
+                    events.append({"recv": f"{last}"})
+            events.append({"send": f"{here}", "set": dict(values(process, number))})
+        reduced.append(events)
+    return reduced
 
 
 def truth(session, predicates):
@@ -204,20 +237,36 @@ class Drawn:
             out.write("---\n".join([self.document, *draw.sample(self.streams, len(self.streams))]))
 
 
-def own_report(place, run, name, asked):
+def own_report(place, run, name, asked, refused):
     """What `judge --beyond-width` says of a run alone: the answers of each predicate, or the refusal."""
     paths = [f"{name}/session.json", *(f"{name}/{of}.stream" for of in run.session.names)]
     status, output, errors = place.run(["judge", "--beyond-width", *paths, *asked])
-    if errors or status != int(run.refused):
+    if errors or status != int(refused):
         raise Differs(f"judge of {name}: status {status}: {errors.decode()}{output.decode()}")
     lines = output.decode().splitlines()
-    if run.refused:
+    if refused:
         return lines[0]
     found = collections.defaultdict(list)
     for line in lines[1:]:
         of, _, answer = line.split(" ")[:3]
         found[of].append(answer)
     return {of: tuple(answers) for of, answers in found.items()}
+
+
+def by_reduction(place, run, name, predicates, asked):
+    """The answers of a run's reduction, if that has fewer events and none is unknown."""
+    events = reduction(run.session, predicates)
+    if sum(map(len, events)) >= len(run.session.places):
+        return None
+    folder = os.path.join(place.folder, f"{name}.reduced")
+    os.mkdir(folder)
+    with open(os.path.join(folder, "session.json"), "w", encoding="utf-8") as file:
+        json.dump({**json.loads(run.document), "version": 2}, file)
+    for of, lines in zip(run.session.names, events):
+        with open(os.path.join(folder, f"{of}.stream"), "w", encoding="utf-8") as file:
+            file.writelines(json.dumps(line) + "\n" for line in [{"process": of}, *lines, {"end": True}])
+    answers = own_report(place, run, f"{name}.reduced", asked, False)
+    return answers if is_known(answers) else None
 
 
 def is_known(answers):
@@ -232,12 +281,10 @@ def outcome(answers):
     return "fail: " + ", ".join(broken) if broken else "pass"
 
 
-def noted(seen, unknown, key, answers):
+def noted(seen, key, answers):
     """What is to be counted of a run with this order and these answers of its own."""
     yield "of an order that came before" if key in seen else "of a new order"
     if is_known(answers):
-        if key in unknown:
-            yield "unknown, and known by a later run"
         return
     yield "unknown"
     if any(answer != "unknown" for pair in answers.values() for answer in pair):
@@ -248,23 +295,31 @@ def noted(seen, unknown, key, answers):
 
 def expected(place, runs, predicates, asked, counts):
     """What comes of each run, and how many orders there are."""
-    outcomes, seen, unknown = [], {}, set()
+    outcomes, seen = [], {}
     for number, run in enumerate(runs):
-        answers = own_report(place, run, str(number), asked)
+        answers = own_report(place, run, str(number), asked, run.refused)
         counts["runs"] += 1
         if run.refused:
             counts["refused"] += 1
             outcomes.append(answers)
             continue
         key = run.document, order_of(run.session, predicates)
-        counts.update(noted(seen, unknown, key, answers))
-        if not is_known(answers) and seen.get(key):
-            outcomes.append(outcome(truth(run.session, predicates)))
-        else:
+        counts.update(noted(seen, key, answers))
+        if is_known(answers):
             outcomes.append(outcome(answers))
-        if not is_known(answers) and not seen.get(key):
-            unknown.add(key)
-        seen[key] = seen.get(key) or is_known(answers)
+            seen[key] = True
+            continue
+        reduced = None if seen.get(key) else by_reduction(place, run, str(number), predicates, asked)
+        if reduced or seen.get(key):
+            true = truth(run.session, predicates)
+            if reduced not in (None, true):
+                raise Differs(f"the reduction of {number} has {reduced}, and the run {true}")
+            counts["unknown, and known by its reduction"] += bool(reduced)
+            outcomes.append(outcome(true))
+            seen[key] = True
+            continue
+        outcomes.append(outcome(answers))
+        seen[key] = False
     return outcomes, len(seen)
 
 

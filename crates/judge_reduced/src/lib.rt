@@ -6,17 +6,20 @@
 //! - `receipts`: the receipts before the image of a kept event
 //! - `images`: the events of a process
 //! - `reduced`: the reduction of a run
+//! - `computations`: the computation of a reduction
 #![tactic(auto)]
 
 ghost use Rattle.judge_reduced.specs.Bounds.{DocumentsNameTheirVars, FewEventsFewKept};
 ghost use Rattle.judge_reduced.specs.Laws.{DefinitelyOfReducedRun, PossiblyOfReducedRun};
 
+mod computations;
 mod ids;
 mod images;
 mod receipts;
 mod reduced;
 mod settings;
 
+pub use computations::traces_computation;
 pub use reduced::reduced_run;
 
 /// A reduction has the answers of the run for each predicate of the document. It has no code.

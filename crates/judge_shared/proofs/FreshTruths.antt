@@ -1,21 +1,22 @@
--- The answers of a run that is judged are right of each run of its order, if none is unknown.
-use Rattle.std.proofs.Common.{◌≡◌, ℕ, true, List, map, All, sym, ap, subst, ◌∙◌}
-use Rattle.std.specs.Prelude.{slice_index_or}
-use Rattle.std.specs.List.{AllZip, list_all}
+-- Answers that are right of a run are right of each run of its order; those of its judgement are, if none is unknown.
+use Rattle.std.proofs.Common.{◌≡◌, ℕ, List, map, All, sym, ap, subst, ◌∙◌}
+use Rattle.std.proofs.lemmas.Option.{IfSome_then}
+use Rattle.std.specs.Prelude.{IfSome, Option, Vec, slice_index_or}
+use Rattle.std.specs.List.{AllZip}
+use Rattle.std.specs.declared.alloc.Global.{Global}
+use Rattle.def_model.specs.Order.{HasNoCycle}
 use Rattle.def_model.specs.Predicates.{Recorded}
 use Rattle.def_format.specs.Documents.{Document, NamedPredicate, Options, inquiry_of}
-use Rattle.def_format.specs.Readings.{Trace}
-use Rattle.def_format.specs.Reports.{Answer, Judged}
-use Rattle.def_judgement.specs.Headline.{AnswersTruly, HeadlineBeyondWidth, TellsTruth, each_decided}
-use Rattle.def_judgement.specs.Judgements.{IsTracesReport, recorded_of}
+use Rattle.def_format.specs.Reports.{Answer}
+use Rattle.def_judgement.specs.Judgements.{IsAnswered}
 use Rattle.def_judgement.specs.OneReport.{OneDocument}
 use Rattle.def_orders.specs.Laws.{DefinitelyOfOrder, HaveOneOrder, PossiblyOfOrder}
 use Rattle.judge_orders.specs.OrderViews.{named_view, processes_view}
 use Rattle.judge_orders.specs.declared.order.Order.{Order}
-use Rattle.judge_session.specs.Computations.{AreWellFormed}
 use Rattle.judge_shared.specs.SharedReports.{AnswersRightly}
-use Rattle.judge_shared.specs.Sharing.{AreRight, IsRunOf, bare, is_known}
-use Rattle.judge_shared.proofs.KnownTruths.{HaveSameAnswers, all_right_too, bare_twice}
+use Rattle.judge_shared.specs.Sharing.{AreCopies, AreRight, AreTruths, IsRunOf, answers_view, bare}
+use Rattle.judge_shared.proofs.KnownTruths.{HaveSameAnswers, all_answered_right, all_right_too, bare_twice}
+use Rattle.pd_report.specs.declared.answer.Answer as answers
 
 -- two runs of one document and one order
 one_order : (options : Options) (bytes : List ℕ) (order : Order) (document : Document) (r r' : Recorded)
@@ -45,40 +46,30 @@ same_answers possibly definitely options bytes order document r r' first second 
     have : HaveOneOrder r r' (named_view order) (processes_view order)
     have = one_order options bytes order document r r' first second
 
--- the answers of a report that tells the truth
-own_answers : (document : Document) (traces : List Trace) (processes events messages : ℕ) (answers : List Answer)
-    → TellsTruth (each_decided document.width) document traces (Judged processes events messages answers)
-    → AllZip (AnswersTruly (each_decided document.width) document traces) document.predicates answers
-own_answers document traces processes events messages answers tells =
-    let same : answers ≡ tells.answers = let all : _ = tells.reported in cc in
-    subst (λ (own : List Answer). AllZip (AnswersTruly (each_decided document.width) document traces)
-    document.predicates own) (sym same) tells.truly
-
-pub fresh_right : OneDocument → HeadlineBeyondWidth → PossiblyOfOrder → DefinitelyOfOrder → (options : Options)
-    (bytes : List ℕ) (order : Order) (document : Document) (traces : List Trace) (recorded : Recorded)
-    (processes events messages count : ℕ) (answers copies : List Answer)
-    → IsRunOf options bytes order document recorded → AreWellFormed document traces recorded count
-    → document.beyond_width ≡ true → IsTracesReport document traces (Judged processes events messages answers)
-    → list_all is_known answers ≡ true → copies ≡ map bare answers → AreRight options bytes order copies
-fresh_right one_document headline possibly definitely options bytes order document traces recorded processes events
-    messages count answers copies is_run well beyond report known are_bare document' r' is_run' =
-    subst (λ (found : List Answer). AllZip (AnswersRightly r') document'.predicates found)
-    (sym (ap (map bare) are_bare ∙ bare_twice answers))
-    (subst (λ (of : Document). AllZip (AnswersRightly r') of.predicates (map bare answers)) same right)
+pub truths_right : OneDocument → PossiblyOfOrder → DefinitelyOfOrder → (options : Options) (bytes : List ℕ)
+    (order : Order) (document : Document) (r : Recorded) (found : List Answer)
+    → IsRunOf options bytes order document r → AreTruths document r found → AreRight options bytes order found
+truths_right one_document possibly definitely options bytes order document r found is_run truths document' r'
+    is_run' =
+    subst (λ (found : List Answer). AllZip (AnswersRightly r') document'.predicates found) (sym truths.are_bare)
+    (subst (λ (of : Document). AllZip (AnswersRightly r') of.predicates found) same
+    (all_right_too r r' document.predicates found (truths.right is_run.begins)
+    (same_answers possibly definitely options bytes order document r r' is_run other)))
   where
     same : document ≡ document'
     same = one_document (inquiry_of options bytes) document document' is_run.is_document is_run'.is_document
 
-    own : IsRunOf options bytes order document (recorded_of document traces)
-    own = subst (IsRunOf options bytes order document) well.same is_run
-
     other : IsRunOf options bytes order document r'
     other = subst (λ (of : Document). IsRunOf options bytes order of r') (sym same) is_run'
 
-    right : AllZip (AnswersRightly r') document.predicates (map bare answers)
-    right =
-        all_right_too (each_decided document.width) document.names (recorded_of document traces) r'
-        document.predicates answers
-        (own_answers document traces processes events messages answers
-        (headline document traces (Judged processes events messages answers) well.formed beyond report)) known
-        (same_answers possibly definitely options bytes order document (recorded_of document traces) r' own other)
+-- copies without evidence of the answers of a judgement, if none is unknown
+pub copies_truths : (document : Document) (r : Recorded) (found : List Answer)
+    (kept : Option (Vec answers.Answer Global)) → HasNoCycle r.events
+    → AllZip (IsAnswered document r) document.predicates found → AreCopies kept found
+    → IfSome kept (λ copies. AreTruths document r (answers_view copies.items))
+copies_truths document r found kept acyclic answered are =
+    IfSome_then kept are (λ copies copied. record {
+      are_bare = ap (map bare) copied.1 ∙ bare_twice found ∙ sym copied.1;
+      right = λ begins. subst (λ (given : List Answer). AllZip (AnswersRightly r) document.predicates given)
+          (sym copied.1) (all_answered_right document r acyclic document.predicates found answered copied.0);
+    })

@@ -1,18 +1,19 @@
--- Answers of which none is unknown are the truth, also without their evidence, and of each run of the order.
-use Rattle.std.proofs.Common.{◌≡◌, ◌↔◌, ℕ, Bool, true, false, ◌&&◌, List, [], ◌∷◌, map, All, refl, sym, ◌∙◌}
+-- Answers of a judgement of which none is unknown are the truth, also without their evidence, and of each run with the
+-- same truths.
+use Rattle.std.proofs.Common.{◌≡◌, ◌↔◌, ℕ, Bool, true, false, ◌&&◌, List, [], ◌∷◌, map, All, refl, sym, subst}
 use Rattle.std.specs.List.{AllZip, list_all}
 use Rattle.std.proofs.lemmas.Bool.{false≢true}
-use Rattle.std.proofs.lemmas.List.Elements.{All-contains, All-head, All-tail}
-use Rattle.def_model.specs.Answers.{IsAvoidingObservation, cuts_along}
-use Rattle.def_model.specs.Cuts.{IsConsistent, empty_cut}
+use Rattle.std.proofs.lemmas.List.Elements.{All-head, All-tail}
+use Rattle.def_model.specs.Answers.{DefinitelyAnswer, DefinitelyNo, DefinitelyUnknown, DefinitelyYes, PossiblyAnswer, PossiblyNo, PossiblyUnknown, PossiblyYes}
 use Rattle.def_model.specs.Events.{Computation}
 use Rattle.def_model.specs.Observations as observations
-use Rattle.def_model.specs.Observations.{HasSatisfying}
+use Rattle.def_model.specs.Order.{HasNoCycle}
 use Rattle.def_model.specs.Predicates.{Predicate, Recorded, test_of}
-use Rattle.def_format.specs.Documents.{NamedPredicate}
+use Rattle.def_format.specs.Documents.{Document, NamedPredicate}
 use Rattle.def_format.specs.Names.{ProcessNames}
 use Rattle.def_format.specs.Reports.{Answer, Definitely, Possibly}
-use Rattle.def_judgement.specs.Headline.{Coverage, IsSound, SaysTruly}
+use Rattle.def_judgement.proofs.Answered.{IsSoundDefinitely, IsSoundPossibly, definitely_at, possibly_at}
+use Rattle.def_judgement.specs.Judgements.{IsAnswered, printed_definitely, printed_possibly}
 use Rattle.judge_shared.specs.SharedReports.{AnswersRightly, IsRight}
 use Rattle.judge_shared.specs.Sharing.{bare, bare_definitely, bare_possibly, is_definitely_known, is_known, is_possibly_known}
 
@@ -26,64 +27,80 @@ right_true false b both = absurd (false≢true both)
 
 -- ---- one answer
 
-possibly_right : (c : Computation) (test : List ℕ → Bool) (possibly : Possibly) → is_possibly_known possibly ≡ true
-    → ((cut : List ℕ) → possibly ≡ Possibly.Yes cut → IsConsistent c cut × (test cut ≡ true))
-    → (possibly ≡ Possibly.No → ¬ observations.Possibly c test)
-    → ((bare_possibly possibly ≡ Possibly.Yes []) ↔ observations.Possibly c test)
-    × ((bare_possibly possibly ≡ Possibly.No) ↔ (¬ observations.Possibly c test))
-possibly_right c test (Possibly.Yes cut) known if_yes if_no =
-    let satisfies : IsConsistent c cut × (test cut ≡ true) = if_yes cut refl in (
-      (λ said. (cut, satisfies.0, satisfies.1), λ holds. refl),
-      (λ said. absurd (cc), λ none. absurd (none (cut, satisfies.0, satisfies.1))),
-    )
-possibly_right c test Possibly.No known if_yes if_no =
-    ((λ said. absurd (cc), λ holds. absurd (if_no refl holds)), (λ said. if_no refl, λ none. refl))
-possibly_right c test (Possibly.Unknown level) known if_yes if_no = absurd (false≢true known)
+-- what is said of Possibly without the cut is the truth, if it is known
+possibly_right : (c : Computation) (test : List ℕ → Bool) (w : ℕ) (p : PossiblyAnswer) → IsSoundPossibly c test w p
+    → is_possibly_known (printed_possibly p) ≡ true
+    → ((bare_possibly (printed_possibly p) ≡ Possibly.Yes []) ↔ observations.Possibly c test)
+    × ((bare_possibly (printed_possibly p) ≡ Possibly.No) ↔ (¬ observations.Possibly c test))
+possibly_right c test w (PossiblyYes cut) sound known = (
+  (λ said. (cut, sound.0, sound.1), λ holds. refl),
+  (λ said. absurd (cc), λ none. absurd (none (cut, sound.0, sound.1))),
+)
+possibly_right c test w PossiblyNo none known =
+    ((λ said. absurd (cc), λ holds. absurd (none holds)), (λ said. none, λ _. refl))
+possibly_right c test w (PossiblyUnknown level) unknown known = absurd (false≢true known)
 
--- no observation that avoids is one of a predicate that is definite
-avoided : (c : Computation) (test : List ℕ → Bool) (path : List ℕ) → IsAvoidingObservation c test path
-    → ¬ observations.Definitely c test
-avoided c test path avoids every =
-    let some : HasSatisfying test (cuts_along (empty_cut c) path) = every (cuts_along (empty_cut c) path) avoids.0 in
-    let fails : test some.0 ≡ false =
-    All-contains (λ cut. test cut ≡ false) (cuts_along (empty_cut c) path) some.0 avoids.1 some.1 in
-    false≢true (sym fails ∙ some.2)
+-- the same of Definitely
+definitely_right : (names : List ProcessNames) (c : Computation) (test : List ℕ → Bool) (w : ℕ) (d : DefinitelyAnswer)
+    → IsSoundDefinitely c test w d → is_definitely_known (printed_definitely names d) ≡ true
+    → ((bare_definitely (printed_definitely names d) ≡ Definitely.Yes 0) ↔ observations.Definitely c test)
+    × ((bare_definitely (printed_definitely names d) ≡ Definitely.No []) ↔ (¬ observations.Definitely c test))
+definitely_right names c test w (DefinitelyYes level) sound known =
+    ((λ said. sound.0, λ holds. refl), (λ said. absurd (cc), λ none. absurd (none sound.0)))
+definitely_right names c test w (DefinitelyNo path) sound known =
+    ((λ said. absurd (cc), λ holds. absurd (sound.0 holds)), (λ said. sound.0, λ _. refl))
+definitely_right names c test w (DefinitelyUnknown level) unknown known = absurd (false≢true known)
 
-definitely_right : (c : Computation) (test : List ℕ → Bool) (definitely : Definitely)
-    → is_definitely_known definitely ≡ true
-    → ((level : ℕ) → definitely ≡ Definitely.Yes level → observations.Definitely c test)
-    → ((reported : List (List ℕ)) → definitely ≡ Definitely.No reported → ¬ observations.Definitely c test)
-    → ((bare_definitely definitely ≡ Definitely.Yes 0) ↔ observations.Definitely c test)
-    × ((bare_definitely definitely ≡ Definitely.No []) ↔ (¬ observations.Definitely c test))
-definitely_right c test (Definitely.Yes level) known if_yes if_no =
-    ((λ said. if_yes level refl, λ holds. refl), (λ said. absurd (cc), λ none. absurd (none (if_yes level refl))))
-definitely_right c test (Definitely.No path) known if_yes if_no =
-    ((λ said. absurd (cc), λ holds. absurd (if_no path refl holds)), (λ said. if_no path refl, λ none. refl))
-definitely_right c test (Definitely.Unknown level) known if_yes if_no = absurd (false≢true known)
-
-right_of_sound : (names : List ProcessNames) (c : Computation) (test : List ℕ → Bool) (answer : Answer)
-    → IsSound names c test answer → is_known answer ≡ true → IsRight c test (bare answer)
-right_of_sound names c test answer sound known = record {
-  possibly_yes = possibly.0;
-  possibly_no = possibly.1;
-  definitely_yes = definitely.0;
-  definitely_no = definitely.1;
-}
+answered_right : (document : Document) (r : Recorded) (asked : NamedPredicate) (answer : Answer) → HasNoCycle r.events
+    → IsAnswered document r asked answer → is_known answer ≡ true → AnswersRightly r asked (bare answer)
+answered_right document r asked answer acyclic answered known = (
+  answered.name,
+  record {
+    possibly_yes = possibly.0;
+    possibly_no = possibly.1;
+    definitely_yes = definitely.0;
+    definitely_no = definitely.1;
+  },
+)
   where
-    possibly : ((bare_possibly answer.possibly ≡ Possibly.Yes []) ↔ observations.Possibly c test)
-        × ((bare_possibly answer.possibly ≡ Possibly.No) ↔ (¬ observations.Possibly c test))
-    possibly =
-        possibly_right c test answer.possibly
-        (left_true (is_possibly_known answer.possibly) (is_definitely_known answer.definitely) known)
-        sound.possibly_yes sound.possibly_no
+    test : List ℕ → Bool
+    test = test_of r asked.predicate
 
-    definitely : ((bare_definitely answer.definitely ≡ Definitely.Yes 0) ↔ observations.Definitely c test)
-        × ((bare_definitely answer.definitely ≡ Definitely.No []) ↔ (¬ observations.Definitely c test))
+    possibly : ((bare_possibly answer.possibly ≡ Possibly.Yes []) ↔ observations.Possibly r.events test)
+        × ((bare_possibly answer.possibly ≡ Possibly.No) ↔ (¬ observations.Possibly r.events test))
+    possibly =
+        subst (λ (said : Possibly). is_possibly_known said ≡ true
+        → ((bare_possibly said ≡ Possibly.Yes []) ↔ observations.Possibly r.events test)
+        × ((bare_possibly said ≡ Possibly.No) ↔ (¬ observations.Possibly r.events test)))
+        (sym answered.possibly_reported)
+        (possibly_right r.events test document.width answered.possibly
+        (possibly_at document r asked.predicate answered.possibly answered.possibly_right).sound)
+        (left_true (is_possibly_known answer.possibly) (is_definitely_known answer.definitely) known)
+
+    definitely : ((bare_definitely answer.definitely ≡ Definitely.Yes 0) ↔ observations.Definitely r.events test)
+        × ((bare_definitely answer.definitely ≡ Definitely.No []) ↔ (¬ observations.Definitely r.events test))
     definitely =
-        definitely_right c test answer.definitely
+        subst (λ (said : Definitely). is_definitely_known said ≡ true
+        → ((bare_definitely said ≡ Definitely.Yes 0) ↔ observations.Definitely r.events test)
+        × ((bare_definitely said ≡ Definitely.No []) ↔ (¬ observations.Definitely r.events test)))
+        (sym answered.definitely_reported)
+        (definitely_right document.names r.events test document.width answered.definitely
+        (definitely_at document r asked.predicate answered.definitely acyclic answered.definitely_right).sound)
         (right_true (is_possibly_known answer.possibly) (is_definitely_known answer.definitely) known)
-        (λ level is. (sound.definitely_yes level is).0)
-        (λ reported is. let path : _ = sound.definitely_no reported is in avoided c test path.0 path.2)
+
+-- the answers of a judgement, if none is unknown
+pub all_answered_right : (document : Document) (r : Recorded) → HasNoCycle r.events → (asked : List NamedPredicate)
+    (answers : List Answer) → AllZip (IsAnswered document r) asked answers → list_all is_known answers ≡ true
+    → AllZip (AnswersRightly r) asked (map bare answers)
+all_answered_right document r acyclic [] [] answered known = tt
+all_answered_right document r acyclic [] (answer ∷ answers) answered known = absurd answered
+all_answered_right document r acyclic (predicate ∷ asked) [] answered known = absurd answered
+all_answered_right document r acyclic (predicate ∷ asked) (answer ∷ answers) answered known = (
+  answered_right document r predicate answer acyclic answered.0
+      (left_true (is_known answer) (list_all is_known answers) known),
+  all_answered_right document r acyclic asked answers answered.1
+      (right_true (is_known answer) (list_all is_known answers) known),
+)
 
 -- ---- what is without evidence stays so
 
@@ -131,25 +148,21 @@ right_too r r' predicate answer same right = record {
   definitely_no = also_not right.definitely_no same.1;
 }
 
--- the answers of a run that are known and sound, without evidence, are right of another run with the same truths
-pub all_right_too : (coverage : Coverage) (names : List ProcessNames) (r r' : Recorded) (asked : List NamedPredicate)
-    (answers : List Answer)
-    → AllZip (λ (predicate : NamedPredicate) (answer : Answer). (answer.name ≡ predicate.name)
-    × SaysTruly coverage names r predicate.predicate answer) asked answers → list_all is_known answers ≡ true
+-- answers that are right of a run are right of another run with the same truths
+pub all_right_too : (r r' : Recorded) (asked : List NamedPredicate) (found : List Answer)
+    → AllZip (AnswersRightly r) asked found
     → All (λ (predicate : NamedPredicate). HaveSameAnswers r r' predicate.predicate) asked
-    → AllZip (AnswersRightly r') asked (map bare answers)
-all_right_too coverage names r r' [] [] truly known same = tt
-all_right_too coverage names r r' [] (answer ∷ answers) truly known same = absurd truly
-all_right_too coverage names r r' (predicate ∷ asked) [] truly known same = absurd truly
-all_right_too coverage names r r' (predicate ∷ asked) (answer ∷ answers) truly known same = (
+    → AllZip (AnswersRightly r') asked found
+all_right_too r r' [] [] right same = tt
+all_right_too r r' [] (answer ∷ found) right same = absurd right
+all_right_too r r' (predicate ∷ asked) [] right same = absurd right
+all_right_too r r' (predicate ∷ asked) (answer ∷ found) right same = (
   (
-    truly.0.0,
-    right_too r r' predicate.predicate (bare answer)
+    right.0.0,
+    right_too r r' predicate.predicate answer
         (All-head (λ (predicate : NamedPredicate). HaveSameAnswers r r' predicate.predicate) predicate asked same)
-        (right_of_sound names r.events (test_of r predicate.predicate) answer truly.0.1.sound
-        (left_true (is_known answer) (list_all is_known answers) known)),
+        right.0.1,
   ),
-  all_right_too coverage names r r' asked answers truly.1
-      (right_true (is_known answer) (list_all is_known answers) known)
+  all_right_too r r' asked found right.1
       (All-tail (λ (predicate : NamedPredicate). HaveSameAnswers r r' predicate.predicate) predicate asked same),
 )

@@ -2,6 +2,7 @@
 pub mod EntryFacts
 pub mod FreshTruths
 pub mod KnownTruths
+pub mod ReducedTruths
 pub mod RunFacts
 pub mod RunInputs
 pub mod SharedAnswers

@@ -1,9 +1,8 @@
 -- What is found of a run whose traces make a well-formed computation.
 use Rattle.std.proofs.Common.{◌≡◌, ◌≤◌, ℕ, true, List, inl, inr, map, length, refl, ap, sym, subst, Ok}
 use Rattle.std.proofs.lemmas.Option.{IfSome_then}
-use Rattle.std.specs.Prelude.{IfSome, Option, Vec}
-use Rattle.std.specs.List.{AllZip, list_all}
-use Rattle.std.specs.declared.alloc.Global.{Global}
+use Rattle.std.specs.Prelude.{IfSome}
+use Rattle.std.specs.List.{AllZip}
 use Rattle.def_model.specs.Cuts.{total}
 use Rattle.def_model.specs.Order.{HasNoCycle}
 use Rattle.def_model.specs.Predicates.{Recorded}
@@ -11,7 +10,6 @@ use Rattle.def_format.specs.Documents.{Document, IsDocument, Options, inquiry_of
 use Rattle.def_format.specs.Readings.{Trace}
 use Rattle.def_format.specs.Reports.{Answer, Report, Judged}
 use Rattle.def_format.specs.Sessions.{StreamResult, session}
-use Rattle.def_judgement.specs.Headline.{HeadlineBeyondWidth}
 use Rattle.def_judgement.specs.Judgements.{IsAnswered}
 use Rattle.def_judgement.specs.OneReport.{OneDocument}
 use Rattle.def_orders.specs.Laws.{DefinitelyOfOrder, PossiblyOfOrder}
@@ -19,11 +17,10 @@ use Rattle.judge_orders.specs.OrderViews.{HasOrder}
 use Rattle.judge_orders.specs.declared.order.Order.{Order}
 use Rattle.judge_session.specs.Computations.{AreWellFormed}
 use Rattle.judge_shared.specs.SharedReports.{AnswersRightly, IsSharedReport}
-use Rattle.judge_shared.specs.Sharing.{AreRight, IsFresh, IsRunOf, IsRunReportOfResults, answers_view, bare, is_known, with_answers}
+use Rattle.judge_shared.specs.Sharing.{AreOfRun, AreRight, AreTruths, IsFresh, IsRunOf, IsRunReportOfResults, answers_view, bare, with_answers}
 use Rattle.judge_shared.specs.declared.found.Fresh.{Fresh}
-use Rattle.pd_report.specs.declared.answer.Answer as answers
-use Rattle.pd_engine.proofs.AnsweredTraces.{answered_report, answers_report}
-use Rattle.judge_shared.proofs.FreshTruths.{fresh_right}
+use Rattle.pd_engine.proofs.AnsweredTraces.{answered_report}
+use Rattle.judge_shared.proofs.FreshTruths.{truths_right}
 
 -- the run of a well-formed computation
 pub run_of : (options : Options) (bytes : List ℕ) (order : Order) (document : Document) (traces : List Trace)
@@ -93,29 +90,36 @@ own_results document streams outcomes traces recorded count found report joined 
     (inl (answered_report document streams outcomes traces recorded count (length document.names)
     (total recorded.events) found joined well answered refl refl))
 
--- Copies of the answers without their evidence, if they are kept, of answers of which none is unknown.
-abbrev pub AreCopies : Option (Vec answers.Answer Global) → List Answer → Type 0
-AreCopies kept found =
-    IfSome kept (λ copies. (list_all is_known found ≡ true) × (answers_view copies.items ≡ map bare found))
+-- with the answers of a judgement, or others that are right of it
+pub given_results : (document : Document) (streams : ℕ) (outcomes : List StreamResult) (traces : List Trace)
+    (recorded : Recorded) (count : ℕ) (found : List Answer) (report : Report) → document.beyond_width ≡ true
+    → session document.names streams outcomes ≡ Ok traces → AreWellFormed document traces recorded count
+    → AreOfRun document recorded found
+    → report ≡ Judged (length document.names) (total recorded.events) count found
+    → IsRunReportOfResults document streams outcomes report
+given_results document streams outcomes traces recorded count found report beyond joined well (inl answered) is =
+    own_results document streams outcomes traces recorded count found report joined well answered is
+given_results document streams outcomes traces recorded count found report beyond joined well (inr truths) is =
+    subst (IsRunReportOfResults document streams outcomes) (sym is)
+    (shared_results document streams outcomes traces recorded count found beyond joined well
+    (truths.right (ap (λ (r : Recorded). r.initial) well.same)))
 
 -- what is known of a run that was judged
-pub judged_fresh : OneDocument → HeadlineBeyondWidth → PossiblyOfOrder → DefinitelyOfOrder → (options : Options)
-    (bytes : List ℕ) (fresh : Fresh) (document : Document) (streams : ℕ) (outcomes : List StreamResult)
-    (traces : List Trace) (recorded : Recorded) (count : ℕ) (found : List Answer) (report : Report)
+pub judged_fresh : OneDocument → PossiblyOfOrder → DefinitelyOfOrder → (options : Options) (bytes : List ℕ)
+    (fresh : Fresh) (document : Document) (streams : ℕ) (outcomes : List StreamResult) (traces : List Trace)
+    (recorded : Recorded) (count : ℕ) (found : List Answer) (report : Report) → document.beyond_width ≡ true
     → session document.names streams outcomes ≡ Ok traces → AreWellFormed document traces recorded count
-    → IsRunOf options bytes fresh.order document recorded → document.beyond_width ≡ true
-    → AllZip (IsAnswered document recorded) document.predicates found → AreCopies fresh.answers found
+    → IsRunOf options bytes fresh.order document recorded
+    → IfSome fresh.answers (λ known. AreTruths document recorded (answers_view known.items))
     → report ≡ Judged (length document.names) (total recorded.events) count found
     → IsFresh options bytes document streams outcomes report fresh
-judged_fresh one_document headline possibly definitely options bytes fresh document streams outcomes traces recorded
-    count found report joined well is_run beyond answered kept is = record {
+judged_fresh one_document possibly definitely options bytes fresh document streams outcomes traces recorded count found
+    report beyond joined well is_run kept is = record {
       recorded = recorded;
       is_run = is_run;
       right =
-          IfSome_then fresh.answers kept (λ copies are. fresh_right one_document headline possibly definitely options
-          bytes fresh.order document traces recorded (length document.names) (total recorded.events) count count found
-          (answers_view copies.items) is_run well beyond
-          (answers_report document traces recorded count found well answered) are.0 are.1);
+          IfSome_then fresh.answers kept (λ known truths. truths_right one_document possibly definitely options bytes
+          fresh.order document recorded (answers_view known.items) is_run truths);
       shared = shared;
     }
   where

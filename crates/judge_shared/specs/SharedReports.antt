@@ -39,7 +39,7 @@ pub record IsSharedReport (document : Document) (traces : List Trace) (report : 
 
 -- The report of a run by its document, with what is asked beside it, and by its streams. It is the one that a judgement
 -- of the run gives, which is true; or, if answers beyond the width are asked for, it has answers that are the truth,
--- with no evidence, as another run of its order may have shown.
+-- with no evidence, as another run of its order, or its reduction, may have shown.
 abbrev pub IsRunReport : Inquiry → List RawStream → Report → Type 0
 IsRunReport inquiry streams report =
     (IsJudgement inquiry streams report × IsTrueReport inquiry streams report)

@@ -1,15 +1,16 @@
 -- Answers that runs of one order share.
 use Rattle.std.specs.Prelude.{Vec, slice_index_or, ◌<◌, ◌≡◌, ◌≤◌, ◌⊎◌, ℕ, Bool, true, false, ◌&&◌, List, [], All, IfSome, length, map, Option, Ok}
-use Rattle.std.specs.List.{AllZip}
+use Rattle.std.specs.List.{AllZip, list_all}
 use Rattle.def_model.specs.Order.{HasNoCycle}
 use Rattle.def_model.specs.Predicates.{Recorded}
 use Rattle.def_format.specs.Documents.{Document, IsDocument, Options, inquiry_of}
 use Rattle.def_format.specs.Readings.{Trace}
 use Rattle.def_format.specs.Reports.{Answer, Definitely, Possibly, Report, Judged, Refused}
 use Rattle.def_format.specs.Sessions.{StreamResult, session}
-use Rattle.def_judgement.specs.Judgements.{IsReportOfResults}
+use Rattle.def_judgement.specs.Judgements.{IsAnswered, IsReportOfResults}
 use Rattle.judge_orders.specs.OrderViews.{HasOrder, named_view, processes_view}
 use Rattle.judge_orders.specs.declared.order.Order.{Order}
+use Rattle.judge_session.specs.Computations.{AreWellFormed}
 use Rattle.judge_shared.specs.SharedReports.{AnswersRightly, IsSharedReport}
 use Rattle.judge_shared.specs.declared.found.Found.{Found}
 use Rattle.judge_shared.specs.declared.found.Fresh.{Fresh}
@@ -82,6 +83,21 @@ abbrev pub AreRightIfKnown : (options : Options) (bytes : List ℕ) (order : Ord
 AreRightIfKnown options bytes order known =
     IfSome known (λ found. AreRight options bytes order (answers_view found.items))
 
+-- copies of the answers without their evidence, if they are kept, of answers of which none is unknown
+abbrev pub AreCopies : Option (Vec answers.Answer Global) → List Answer → Type 0
+AreCopies kept found =
+    IfSome kept (λ copies. (list_all is_known found ≡ true) × (answers_view copies.items ≡ map bare found))
+
+-- The answers have no evidence, and are right of the run, if it begins with the document's initial values.
+pub record AreTruths (document : Document) (recorded : Recorded) (found : List Answer) : Type 0 where
+  pub are_bare : map bare found ≡ found
+  pub right : recorded.initial ≡ document.initial → AllZip (AnswersRightly recorded) document.predicates found
+
+-- The answers are those of the run's judgement, or are right of it and have no evidence.
+abbrev pub AreOfRun : (document : Document) (recorded : Recorded) (found : List Answer) → Type 0
+AreOfRun document recorded found =
+    AllZip (IsAnswered document recorded) document.predicates found ⊎ AreTruths document recorded found
+
 -- an entry is right
 abbrev pub IsEntry : Options → Entry → Type 0
 IsEntry options entry = AreRightIfKnown options entry.document.items entry.order entry.answers
@@ -122,3 +138,11 @@ pub record IsFound (options : Options) (bytes : List ℕ) (document : Document) 
   pub is_report : IsRunReportOfResults document streams outcomes (report_view found.report)
   pub fresh : IfSome found.fresh
       (IsFresh options bytes document streams outcomes (report_view found.report))
+
+-- This is found of each run of the document and of this order, of which this was recorded, with this many messages.
+abbrev pub IsFoundOfRun : (document : Document) (recorded : Recorded) (messages : ℕ) (order : Order) → Found → Type 0
+IsFoundOfRun document recorded messages order found =
+    (options : Options) (bytes : List ℕ) (traces : List Trace) (streams : ℕ) (outcomes : List StreamResult)
+    → IsDocument (inquiry_of options bytes) document → session document.names streams outcomes ≡ Ok traces
+    → AreWellFormed document traces recorded messages → HasOrder document recorded order
+    → IsFound options bytes document streams outcomes found

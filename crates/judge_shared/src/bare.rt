@@ -1,5 +1,5 @@
 //! Answers without their evidence.
-ghost use Rattle.judge_shared.specs.Sharing.{answers_view, bare, bare_definitely, bare_possibly, is_definitely_known, is_known, is_possibly_known};
+ghost use Rattle.judge_shared.specs.Sharing.{AreCopies, answers_view, bare, bare_definitely, bare_possibly, is_definitely_known, is_known, is_possibly_known};
 ghost use Rattle.pd_report.specs.Views.{answer_view, definitely_view, possibly_view};
 ghost use Rattle.std.specs.List.{list_all};
 ghost use Rattle.std.specs.Prelude.{◌≡◌, IfOk, map};
@@ -86,8 +86,24 @@ fn is_known(answer: &Answer) -> bool
 }
 
 /// Whether no answer is unknown.
-pub(crate) fn are_known(answers: &[Answer]) -> bool
+fn are_known(answers: &[Answer]) -> bool
     ensures { result ≡ list_all (λ answer. is_known (answer_view answer)) answers.now }
 {
     answers.iter().all(|answer| is_known(answer))
+}
+
+/// Copies of the answers without their evidence, if none is unknown.
+///
+/// # Errors
+/// An allocation was refused.
+pub(crate) fn known_answers(
+    alloc: Global,
+    answers: &[Answer],
+) -> Result<Option<Vec<Answer>>, AllocError>
+    ensures { IfOk result (λ kept. AreCopies kept (answers_view answers.now)) }
+{
+    if are_known(answers) {
+        return Ok(Some(bare_answers(alloc, answers)?));
+    }
+    Ok(None)
 }

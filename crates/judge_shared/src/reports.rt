@@ -1,4 +1,4 @@
-//! What is found of a run: its report, by its judgement or by that of another run of its order.
+//! What is found of a run: its report, by its judgement, or by that of another run of its order or of its reduction.
 ghost use Rattle.def_format.specs.Documents as documents;
 ghost use Rattle.def_format.specs.Documents.{IsDocument, inquiry_of};
 ghost use Rattle.def_format.specs.Readings as readings;
@@ -10,16 +10,16 @@ ghost use Rattle.judge_orders.specs.OrderViews.{HasOrder};
 ghost use Rattle.judge_orders.specs.declared.order.Order as orders;
 ghost use Rattle.judge_session.specs.Computations.{AreWellFormed};
 ghost use Rattle.judge_session.specs.Unanswered.{IsUnanswered};
-ghost use Rattle.judge_shared.specs.Sharing.{AreRight, AreSound, IsFound, answers_view, bare, is_known};
+ghost use Rattle.judge_shared.specs.Sharing.{AreOfRun, AreRight, AreSound, AreTruths, IsFound, IsFoundOfRun, answers_view};
 ghost use Rattle.pd_gather.specs.Views.{ReadingFits, results_view};
 ghost use Rattle.pd_report.specs.Views.{report_view};
 ghost use Rattle.pd_spec.specs.Views.{document_view};
-ghost use Rattle.std.specs.List.{list_all};
-ghost use Rattle.std.specs.Prelude.{◌≡◌, All, IfErr, IfOk, IfSome, IsOkUnless, List, Ok, length, map, true, ℕ};
+ghost use Rattle.std.specs.Prelude.{◌≡◌, All, IfErr, IfOk, IfSome, IsOkUnless, List, Ok, length, true, ℕ};
 
-use super::bare::{are_known, bare_answers};
+use super::bare::{bare_answers, known_answers};
 use super::found::{Found, Fresh};
 use super::orders::Orders;
+use super::reduced::reduced_answers;
 use judge_orders::{Order, order_of};
 use judge_session::{EngineFault, Unanswered, computation_of, traces_of};
 use pd_clock::Computation;
@@ -46,25 +46,94 @@ fn judged(spec: &Spec, computation: &Computation<'_>, messages: u64, answers: Ve
     }
 }
 
-/// Copies of the answers without their evidence, if none is unknown.
-///
-/// # Errors
-/// An allocation was refused.
-fn known_answers(alloc: Global, answers: &[Answer]) -> Result<Option<Vec<Answer>>, AllocError>
-    ensures { IfOk result (λ kept. IfSome kept (λ copies. (list_all is_known (answers_view answers.now) ≡ true)
-        × (answers_view copies.items ≡ map bare (answers_view answers.now)))) }
+/// What is found of a run of this document and this order with these answers, which are its own or the truth, and those
+/// that are kept of it, which are the truth.
+fn found_with(
+    spec: &Spec,
+    computation: &Computation<'_>,
+    messages: u64,
+    order: Order,
+    answers: Vec<Answer>,
+    kept: Option<Vec<Answer>>,
+) -> Found
+    requires beyond { (document_view spec.now).beyond_width ≡ true }
+    requires names { length computation.now.events ≡ length (document_view spec.now).names }
+    requires answers { AreOfRun (document_view spec.now) computation.now (answers_view answers.items) }
+    requires kept { IfSome kept (λ known. AreTruths (document_view spec.now) computation.now
+        (answers_view known.items)) }
+    ensures { IsFoundOfRun (document_view spec.now) computation.now messages order result }
 {
-    if are_known(answers) {
-        return Ok(Some(bare_answers(alloc, answers)?));
+    computation.limits();
+    def_judgement::one_document();
+    def_orders::one_order();
+    Found {
+        report: judged(spec, computation, messages, answers),
+        fresh: Some(Fresh {
+            order,
+            answers: kept,
+        }),
     }
-    Ok(None)
 }
 
-/// What is found of a run of this document and this order by its judgement.
+/// What is found of a run of this document and this order with these answers, which are the truth.
 ///
 /// # Errors
 /// An allocation was refused.
-fn judged_run<S: Threads + Wait + Sync, G: Gate + Sync>(
+fn found_by_truths(
+    alloc: Global,
+    spec: &Spec,
+    computation: &Computation<'_>,
+    messages: u64,
+    order: Order,
+    truths: Vec<Answer>,
+) -> Result<Found, AllocError>
+    requires beyond { (document_view spec.now).beyond_width ≡ true }
+    requires names { length computation.now.events ≡ length (document_view spec.now).names }
+    requires truths { AreTruths (document_view spec.now) computation.now (answers_view truths.items) }
+    ensures { IfOk result (IsFoundOfRun (document_view spec.now) computation.now messages order) }
+{
+    let kept = bare_answers(alloc, &truths)?;
+    Ok(found_with(spec, computation, messages, order, truths, Some(kept)))
+}
+
+/// What is found of a run of this document and this order by its judgement, or if that leaves an answer unknown, by the
+/// judgement of its reduction, if that has at least this many events, and leaves none.
+///
+/// # Errors
+/// An allocation was refused.
+fn run_judged_first<S: RandomSource + Threads + Wait + Sync, G: Gate + Sync>(
+    crew: &Crew<'_, '_, S, G>,
+    alloc: Global,
+    spec: &Spec,
+    computation: &Computation<'_>,
+    messages: u64,
+    order: Order,
+    least: u64,
+) -> Result<Found, AllocError>
+    requires beyond { (document_view spec.now).beyond_width ≡ true }
+    requires names { length computation.now.events ≡ length (document_view spec.now).names }
+    ensures { IfOk result (IsFoundOfRun (document_view spec.now) computation.now messages order) }
+{
+    computation.limits();
+    let answers = answers_of(crew, alloc, spec, computation)?;
+    let known = known_answers(alloc, &answers)?;
+    if known.is_some() {
+        return Ok(found_with(spec, computation, messages, order, answers, known));
+    }
+    let reduced = reduced_answers(crew, alloc, spec, computation, least, computation.total())?;
+    match reduced {
+        Some(truths) => found_by_truths(alloc, spec, computation, messages, order, truths),
+        None => Ok(found_with(spec, computation, messages, order, answers, None)),
+    }
+}
+
+/// What is found of a run of this document and this order by its judgement, or by that of its reduction. That is judged
+/// first if it has fewer than half as many events, which takes a fraction of the time, and else if the run's own
+/// judgement leaves an answer unknown; it counts if it leaves none.
+///
+/// # Errors
+/// An allocation was refused.
+fn judged_run<S: RandomSource + Threads + Wait + Sync, G: Gate + Sync>(
     crew: &Crew<'_, '_, S, G>,
     alloc: Global,
     spec: &Spec,
@@ -74,27 +143,14 @@ fn judged_run<S: Threads + Wait + Sync, G: Gate + Sync>(
 ) -> Result<Found, AllocError>
     requires beyond { (document_view spec.now).beyond_width ≡ true }
     requires names { length computation.now.events ≡ length (document_view spec.now).names }
-    ensures { IfOk result (λ found. (options : documents.Options) (bytes : List ℕ) (traces : List readings.Trace)
-        (streams : ℕ) (outcomes : List StreamResult) → IsDocument (inquiry_of options bytes) (document_view spec.now)
-        → session (document_view spec.now).names streams outcomes ≡ Ok traces
-        → AreWellFormed (document_view spec.now) traces computation.now messages
-        → HasOrder (document_view spec.now) computation.now order
-        → IsFound options bytes (document_view spec.now) streams outcomes found) }
+    ensures { IfOk result (IsFoundOfRun (document_view spec.now) computation.now messages order) }
 {
-    computation.limits();
-    def_judgement::one_document();
-    def_judgement::headline_beyond_width();
-    def_orders::one_order();
-    let answers = answers_of(crew, alloc, spec, computation)?;
-    let kept = known_answers(alloc, &answers)?;
-    let report = judged(spec, computation, messages, answers);
-    Ok(Found {
-        report,
-        fresh: Some(Fresh {
-            order,
-            answers: kept,
-        }),
-    })
+    let half = computation.total() / 2;
+    let reduced = reduced_answers(crew, alloc, spec, computation, 0, half)?;
+    match reduced {
+        Some(truths) => found_by_truths(alloc, spec, computation, messages, order, truths),
+        None => run_judged_first(crew, alloc, spec, computation, messages, order, half),
+    }
 }
 
 /// What is found of a run of this order, of which these answers are known.
@@ -157,7 +213,7 @@ fn lone_run<S: Threads + Wait + Sync, G: Gate + Sync>(
 ///
 /// # Errors
 /// An allocation was refused.
-fn ordered_run<S: Threads + Wait + Sync, G: Gate + Sync>(
+fn ordered_run<S: RandomSource + Threads + Wait + Sync, G: Gate + Sync>(
     crew: &Crew<'_, '_, S, G>,
     alloc: Global,
     spec: &Spec,

@@ -2,7 +2,7 @@
 use Rattle.std.proofs.Common.{sym, ◌∙◌}
 use Rattle.judge_shared.specs.Sharing.{answers_view}
 use Rattle.judge_shared.proofs.SharedAnswers.{bare_copies, known_views}
-use Rattle.judge_shared.proofs.reports.known_answers.Goals as goal
+use Rattle.judge_shared.proofs.bare.known_answers.Goals as goal
 
 pub returns-then-are_known : goal.returns-then-are_known
 returns-then-are_known c = (
