@@ -23,7 +23,7 @@ use judge_session::{EngineFault, Inquiry, Unanswered};
 use out_json::json_text;
 use out_page::refusal_page;
 use pd_expand::Crew;
-use pd_gather::ByteSource;
+use pd_gather::{ByteSource, NoObserver, Observer};
 use pd_level::Gate;
 use pd_pred::Names;
 use pd_report::{Refusal, Report, write_all};
@@ -56,6 +56,34 @@ fn without_cycle(unanswered: Unanswered) -> Unanswered
             Unanswered::Refused(refusal)
         }
         Unanswered::Memory => Unanswered::Memory,
+    }
+}
+
+/// The page or the object of a session, or why it comes to none, as `explore` gives it, by this crew. The observer, if
+/// there is one, watches while the streams are read.
+fn page_by_crew<
+    S: RandomSource + Threads + Wait + Sync,
+    R: ByteSource + Send + Drop,
+    G: Gate + Sync,
+    O: Observer + Sync,
+>(
+    crew: &Crew<'_, '_, S, G>,
+    alloc: Global,
+    inquiry: Inquiry<'_, '_, '_>,
+    form: Form<'_, '_>,
+    files: &[StreamFile<'_>],
+    readers: Vec<R>,
+    observer: Option<&O>,
+) -> Result<Page, Unanswered>
+    requires { All (λ r. R.has_ended r ≡ false) readers.items }
+    ensures page { IfOk result (λ page. IsPageOfInputs (inquiry_view inquiry.entry) (form_view form.entry)
+        (files_view files.now) (map R.left readers.items) (IsGiven (Ok page.report)) page.text.items) }
+    ensures refused { IfErr result (IsUnanswered
+        (IsOwnRefusal (inquiry_view inquiry.entry) (map R.left readers.items))) }
+{
+    match page_of_session(crew, alloc, inquiry, form, files, readers, observer) {
+        Ok(page) => Ok(page),
+        Err(unanswered) => Err(without_cycle(unanswered)),
     }
 }
 
@@ -92,10 +120,42 @@ pub fn explore<
         (IsOwnRefusal (inquiry_view inquiry.entry) (map R.left readers.items))) }
 {
     let crew = Crew::new(rt, workers, gate);
-    match page_of_session(&crew, alloc, inquiry, form, files, readers) {
-        Ok(page) => Ok(page),
-        Err(unanswered) => Err(without_cycle(unanswered)),
-    }
+    page_by_crew(
+        &crew,
+        alloc,
+        inquiry,
+        form,
+        files,
+        readers,
+        None::<&NoObserver>,
+    )
+}
+
+/// Explores a session as `explore` does, by this crew. The observer watches while the streams are read.
+///
+/// # Errors
+/// A refusal that is for no causal cycle, and `Memory`.
+pub fn explore_watched<
+    S: RandomSource + Threads + Wait + Sync,
+    R: ByteSource + Send + Drop,
+    G: Gate + Sync,
+    O: Observer + Sync,
+>(
+    crew: &Crew<'_, '_, S, G>,
+    alloc: Global,
+    inquiry: Inquiry<'_, '_, '_>,
+    form: Form<'_, '_>,
+    files: &[StreamFile<'_>],
+    readers: Vec<R>,
+    observer: &O,
+) -> Result<Page, Unanswered>
+    requires { All (λ r. R.has_ended r ≡ false) readers.items }
+    ensures page { IfOk result (λ page. IsPageOfInputs (inquiry_view inquiry.entry) (form_view form.entry)
+        (files_view files.now) (map R.left readers.items) (IsGiven (Ok page.report)) page.text.items) }
+    ensures refused { IfErr result (IsUnanswered
+        (IsOwnRefusal (inquiry_view inquiry.entry) (map R.left readers.items))) }
+{
+    page_by_crew(crew, alloc, inquiry, form, files, readers, Some(observer))
 }
 
 /// The text of a refusal's report in this form, with this explanation.

@@ -24,7 +24,7 @@ mod pages;
 mod sources;
 mod stream_file;
 
-pub use explorations::{explore, refused_page, write_page};
+pub use explorations::{explore, explore_watched, refused_page, write_page};
 pub use form::Form;
 pub use page::Page;
 pub use sources::events_are_recorded;

@@ -36,7 +36,7 @@ use out_page::{Content, Extras, Outcome, Source, text};
 use pd_clock::Computation;
 use pd_engine::answers_of;
 use pd_expand::Crew;
-use pd_gather::{ByteSource, read_streams};
+use pd_gather::{ByteSource, Observer, read_streams_watched};
 use pd_level::Gate;
 use pd_match::Place;
 use pd_report::{Answer, Refusal, Report};
@@ -300,11 +300,13 @@ fn page_of_traces<S: RandomSource + Threads + Wait + Sync, G: Gate + Sync>(
 }
 
 /// The page or the object of the session of an inquiry's document and of what the streams' readers give, with where
-/// their events were recorded by these files, or why it comes to none.
+/// their events were recorded by these files, or why it comes to none. The observer, if there is one, watches while the
+/// streams are read.
 pub(crate) fn page_of_session<
     S: RandomSource + Threads + Wait + Sync,
     R: ByteSource + Send + Drop,
     G: Gate + Sync,
+    O: Observer + Sync,
 >(
     crew: &Crew<'_, '_, S, G>,
     alloc: Global,
@@ -312,6 +314,7 @@ pub(crate) fn page_of_session<
     form: Form<'_, '_>,
     files: &[StreamFile<'_>],
     readers: Vec<R>,
+    observer: Option<&O>,
 ) -> Result<Page, Unanswered>
     requires { All (λ r. R.has_ended r ≡ false) readers.items }
     ensures page { IfOk result (λ page. IsPageOfInputs (inquiry_view inquiry.entry) (form_view form.entry)
@@ -320,7 +323,7 @@ pub(crate) fn page_of_session<
         (IsReportOfInputs (inquiry_view inquiry.entry) (map R.left readers.items))) }
 {
     let spec = read_inquiry(alloc, inquiry)?;
-    let gathered = read_streams(crew.runtime(), alloc, &spec, readers)?;
+    let gathered = read_streams_watched(crew.runtime(), alloc, &spec, readers, observer)?;
     let traces = traces_of(alloc, &spec, gathered)?;
     let sources = sources_of(alloc, &spec, files, &traces)?;
     page_of_traces(crew, alloc, &spec, form, &sources, &traces)

@@ -2,7 +2,7 @@
 use Rattle.std.proofs.Common.{map}
 use Rattle.judge_session.specs.Inquiries.{inquiry_view}
 use Rattle.judge_explore.proofs.Written.{kept_refusal}
-use Rattle.judge_explore.proofs.explorations.explore.Goals as goal
+use Rattle.judge_explore.proofs.explorations.page_by_crew.Goals as goal
 
 pub returns-in-Err-clause-refused : goal.returns-in-Err-clause-refused
 returns-in-Err-clause-refused g c =
