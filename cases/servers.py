@@ -36,7 +36,8 @@ OF_A = b'{"process":"a"}\n{"set":{"x":1}}\n{"set":{"x":0}}\n{"end":true}\n'
 OF_B = b'{"process":"b"}\n{"set":{"y":1}}\n{"set":{"y":0}}\n{"end":true}\n'
 REPORT = b"session 2 processes 4 events 0 messages\nboth possibly yes 1,1\nboth definitely no b,b,a,a\n"
 AS_JSON = (b'{"events":4,"format":1,"messages":0,"outcome":"judged","predicates":[{"definitely":{"answer":"no",'
-           b'"path":[["b",2],["a",2]]},"name":"both","possibly":{"answer":"yes","cut":{"a":1,"b":1}}}],"processes":2,'
+           b'"path":[["b",2],["a",2]]},"name":"both","possibly":{"answer":"yes","at":{"a":{"values":{"x":1}},'
+           b'"b":{"values":{"y":1}}},"cut":{"a":1,"b":1}}}],"processes":2,'
            b'"report":"session 2 processes 4 events 0 messages\\nboth possibly yes 1,1\\n'
            b'both definitely no b,b,a,a\\n"}\n')
 # Of width 1, so that nothing is known without the option.

@@ -13,7 +13,7 @@ use Rattle.def_format.specs.Reports.{Report}
 use Rattle.def_judgement.specs.Judgements.{RawStream}
 use Rattle.def_judgement.specs.Writes.{IsAnyReport, IsGivenAs, IsRefused, IsTextOfStreams, IsWholeInput, Partial, Source, Whole, whole_source}
 use Rattle.def_judgement.proofs.Writing.{writes_weaker}
-use Rattle.app_arguments.specs.Statuses.{Ending, Success, Negative, Alarm, NoPredicate, Misuse, Failed, ComesTo, File, MemoryFailure, ReadFailure, WriteFailure, BundleFailure, NetworkFailure, LeavesOf, OfClaim, OfDocument, OfFinding, OfReport, WritesUpTo, sources_of}
+use Rattle.app_arguments.specs.Statuses.{Ending, Success, Negative, Alarm, NoPredicate, Misuse, Failed, ComesTo, File, MemoryFailure, ReadFailure, WriteFailure, BundleFailure, NetworkFailure, LeavesOf, OfClaim, OfDocument, OfFinding, OfReport, OfStreams, WritesUpTo, sources_of}
 use Rattle.app_arguments.specs.Conditions as conditions
 use Rattle.judge_runs.specs.Wishes.{Condition}
 use Rattle.judge_session.specs.declared.fault.EngineFault.{EngineFault}
@@ -277,6 +277,17 @@ report_text_of_files options read document files lefts IsSaid text same are h =
       are_given = given_as_files files lefts h.streams are h.are_given;
       is_report_text = h.is_report_text;
     })
+
+-- what is left written of a judgement by the bytes that were read is what is to be left by the files
+pub judgement_of_files : (options : Options) (read document : List ℕ) (files lefts : List Source)
+    (fail_on : List Condition) (old new : Option (List ℕ)) → AllZip Knows files lefts
+    → SameOutline options read document → (ending : Ending)
+    → OfStreams lefts fail_on (inquiry_of options read) ending old new
+    → OfStreams files fail_on (inquiry_of options document) ending old new
+judgement_of_files options read document files lefts fail_on old new are same =
+    report_weaker (IsTextOfStreams (inquiry_of options read) lefts)
+    (IsTextOfStreams (inquiry_of options document) files) fail_on old new
+    (λ IsSaid text. report_text_of_files options read document files lefts IsSaid text same are)
 
 -- ---- a check
 

@@ -1,6 +1,6 @@
 -- A flush changes nothing of what is written, and a text of which something is said is one of which nothing is said.
-use Rattle.std.proofs.Common.{◌≡◌, ◌≤◌, ◌∙◌, ◌↔◌, ℕ, IsTrue, List, ap, length, take, None, Some, Option, Ok, Err, inl, inr, refl, true, false}
-use Rattle.std.specs.Prelude.{◌⊎◌, Bool, IfSome, if◌then◌else◌}
+use Rattle.std.proofs.Common.{◌≡◌, ◌≤◌, ◌∙◌, ◌↔◌, ℕ, IsTrue, List, ap, length, take, None, Some, Option, Ok, Err, inl, inr, refl, subst, sym, true, false}
+use Rattle.std.specs.Prelude.{◌⊎◌, Bool, IfSome, IsErrAnd, Result, if◌then◌else◌}
 use Rattle.std.specs.List.{list_any}
 use Rattle.std.specs.Io.KnownBytes.{Appends, Keeps}
 use Rattle.def_format.specs.Documents.{Inquiry}
@@ -38,6 +38,12 @@ flushed_up_to P Q old middle new weaker written keeps =
     inl (written.0, weaker written.0 written.1, appends_kept old middle new written.0 written.2 keeps)
 
 -- ---- the ends of a judgement
+
+-- what is handed on is this fault
+pub handed_on : (P : Result Report EngineFault → Type 0) (result : Result Report EngineFault) (fault : EngineFault)
+    → IsErrAnd result (λ e. e ≡ fault) → P (Err fault) → P result
+handed_on P (Ok report) fault is held = absurd is
+handed_on P (Err other) fault is held = subst (λ (e : EngineFault). P (Err e)) (sym is) held
 
 no_refusal : (meets : Bool) → ¬ ((if meets then conditions.Met else conditions.Unmet) ≡ conditions.OfRefusal)
 no_refusal true is = cc

@@ -2,7 +2,6 @@
 pub mod DocumentPrefixes
 pub mod FilesRead
 pub mod FlushedTexts
-pub mod JsonReports
 pub mod NamedPredicates
 pub mod UnreadFiles
 pub mod WrittenSoFar

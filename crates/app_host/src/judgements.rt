@@ -1,48 +1,55 @@
 //! Judges the session in files.
 ghost use Rattle.app_arguments.specs.Statuses.{OfNamed, OfStreams, SessionLeaves};
-ghost use Rattle.app_arguments.specs.Views.{format_view, session_view};
+ghost use Rattle.app_arguments.specs.Views.{session_view};
 ghost use Rattle.app_host.specs.Faults.{judgement_ending, named_ending};
 ghost use Rattle.app_host.specs.FileSources.{ReadLeaves};
-ghost use Rattle.app_host.specs.Formats.{OfFormat};
 ghost use Rattle.judge_runs.specs.Wishes.{Condition};
 ghost use Rattle.app_arguments.specs.ConditionViews.{fail_on_view};
 ghost use Rattle.judge_session.specs.Inquiries.{inquiry_view};
 ghost use Rattle.pd_spec.specs.Views.{options_view};
-ghost use Rattle.std.specs.Prelude.{◌≡◌, ◌⊎◌, List, All, IfErr, false, map};
+ghost use Rattle.std.specs.Prelude.{◌≡◌, List, All, false, map};
 
-use super::formats::write_report;
 use super::named::has_named;
 use super::session_files::read_session;
 use super::world::{System, World};
-use app_arguments::{Format, Judgement, Workers};
+use app_arguments::{Judgement, Workers};
 use judge_session::EngineFault;
-use pd_engine::{ByteSource, Gate, Inquiry, Report, report_inquiry};
+use pd_engine::{ByteSource, Gate, Inquiry, Report, judge_inquiry};
 use std::io::Write;
 
-/// Judges a document, with what is asked, and the streams, writes the report in this format, and flushes the output. It
-/// gives the report.
+/// Judges a document, with what is asked, and the streams, writes the report, and flushes the output. It gives the
+/// report.
 ///
 /// # Errors
 /// `Memory` leaves nothing written. `Write` leaves a part of the report written, or all of it if only the flush failed.
-pub fn judge_read<Y: System, R: ByteSource + Send + Drop, G: Gate + Sync, O: Write>(
+fn judge_read<Y: System, R: ByteSource + Send + Drop, G: Gate + Sync, O: Write>(
     world: &World<'_, Y>,
     inquiry: Inquiry<'_, '_, '_>,
     streams: Vec<R>,
     workers: &Workers,
-    format: Format,
     gate: &G,
     output: &mut O,
 ) -> Result<Report, EngineFault>
     requires { All (λ stream. R.has_ended stream ≡ false) streams.items }
     // This is said for all answers on which the run may be to fail.
-    ensures written { (fail_on : List Condition) → ReadLeaves (OfFormat (format_view format)
-        (map R.left streams.items) fail_on (inquiry_view inquiry.entry)) (judgement_ending fail_on result)
-        (O.contents output.old) (O.contents output.new) }
-    ensures err { IfErr result (λ fault. (fault ≡ EngineFault.Memory) ⊎ (fault ≡ EngineFault.Write)) }
+    ensures { (fail_on : List Condition) → ReadLeaves (OfStreams (map R.left streams.items) fail_on
+        (inquiry_view inquiry.entry)) (judgement_ending fail_on result) (O.contents output.old)
+        (O.contents output.new) }
 {
     let workers = workers.count();
-    let report = report_inquiry(world.rt, world.alloc, inquiry, streams, workers, gate)?;
-    write_report(world.alloc, inquiry, report, format, output)
+    let report = judge_inquiry(
+        world.rt,
+        world.alloc,
+        inquiry,
+        streams,
+        workers,
+        gate,
+        output,
+    )?;
+    if output.flush().is_err() {
+        return Err(EngineFault::Write);
+    }
+    Ok(report)
 }
 
 /// Looks up in a document, with what is asked, the predicates that are named; if all are there, or the document is
@@ -68,15 +75,7 @@ fn judge_named<Y: System, R: ByteSource + Send + Drop, G: Gate + Sync, O: Write>
         return Ok(None);
     }
     let workers = &judgement.workers;
-    match judge_read(
-        world,
-        inquiry,
-        streams,
-        workers,
-        Format::Plain,
-        gate,
-        output,
-    ) {
+    match judge_read(world, inquiry, streams, workers, gate, output) {
         Ok(report) => Ok(Some(report)),
         Err(fault) => Err(fault),
     }

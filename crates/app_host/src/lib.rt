@@ -17,8 +17,6 @@
 //! - `session_files`: opens and reads the files of a session
 //! - `claim_files`: the files of a report and of the session that it is said to be of
 //! - `named`: looks up the predicates that conditions name
-//! - `json`: the JSON text of a report on a document
-//! - `formats`: writes a report in the format that is asked for
 //! - `judgements`: judges the session in files
 //! - `checks`: checks a report against the session in files
 #![tactic(auto)]
@@ -28,8 +26,6 @@ mod checks;
 mod claim_files;
 mod file_source;
 mod flushed_output;
-mod formats;
-mod json;
 mod judgements;
 mod level_gate;
 mod line;
@@ -48,8 +44,7 @@ pub use checks::{check_files, check_seen};
 pub use claim_files::read_claim;
 pub use file_source::FileSource;
 pub use flushed_output::write_flushed;
-pub use formats::write_report;
-pub use judgements::{judge_files, judge_read};
+pub use judgements::judge_files;
 pub use level_gate::LevelGate;
 pub use line::write_line;
 pub use named::{has_named, is_out_of_memory};

@@ -9,7 +9,7 @@ use Rattle.def_judgement.specs.Headline.{is_judged}
 use Rattle.def_judgement.specs.Judgements.{IsJudgement, RawStream, of_read, of_refused}
 use Rattle.app_arguments.specs.Statuses.{Ending, Success, Negative, Alarm, NoPredicate, Misuse, Failed, ComesTo, File, MemoryFailure, ReadFailure, WriteFailure, BundleFailure, NetworkFailure, HasNamed, IsTextOfAccepted, LeavesOf, OfConnections, OfNamed, OfReport}
 use Rattle.app_arguments.specs.Formats.{Format}
-use Rattle.app_host.specs.Formats.{IsFormatted, OfFormat}
+use Rattle.app_serve.specs.Served.{IsServed, OfServed}
 use Rattle.def_judgement.specs.Writes.{Source, Whole, IsAnyReport, IsRefused}
 use Rattle.def_judgement.proofs.Writing.{writes_weaker}
 use Rattle.app_arguments.specs.Conditions as conditions
@@ -29,7 +29,7 @@ use Rattle.judge_session.specs.declared.fault.EngineFault.TheVariants.{Memory, W
 use Rattle.app_host.specs.FileSources.{IsReadOf, ReadLeaves, SameOutline}
 use Rattle.app_host.proofs.DocumentPrefixes.{same_document, same_refusal}
 use Rattle.app_host.proofs.FilesRead.{leaves_of_read, report_weaker}
-use Rattle.app_host.proofs.JsonReports.{found_in, same_text_in, weaker_said_in}
+use Rattle.app_serve.proofs.ServedTexts.{found_in, same_text_in, weaker_said_in}
 use Rattle.app_host.proofs.NamedPredicates.{has_of_refused, named_of_file, refused_unless_memory, with_named}
 
 -- The streams are those of accepted connections: as many as the document has processes, and none if it is refused.
@@ -60,8 +60,8 @@ accepted_of_refused document G fault not_refused refused = record {
 
 accepted_text : (format : Format) (document : Inquiry) (G : Source → Type 0) (inputs : List Source) (IsSaid : Report
     → Type 0)
-    (text : List ℕ) → AreAccepted document G inputs → IsFormatted format document inputs IsSaid text
-    → IsTextOfAccepted (IsFormatted format) document G IsSaid text
+    (text : List ℕ) → AreAccepted document G inputs → IsServed format document inputs IsSaid text
+    → IsTextOfAccepted (IsServed format) document G IsSaid text
 accepted_text format document G inputs IsSaid text are is = record {
   inputs = inputs;
   accepted = are.accepted;
@@ -73,14 +73,14 @@ accepted_text format document G inputs IsSaid text are is = record {
 -- what is left by these streams is what is to be left by accepted ones
 module _ (format : Format) (fail_on : List Condition) (document : Inquiry) (G : Source → Type 0) (inputs : List Source)
     (MayNotServe IsKept : Type 0) (old new : Option (List ℕ)) (are : AreAccepted document G inputs) where
-  accepted : (ending : Ending) → OfFormat format inputs fail_on document ending old new
-      → OfReport (IsTextOfAccepted (IsFormatted format) document G) fail_on ending old new
-  accepted = report_weaker (IsFormatted format document inputs) (IsTextOfAccepted
-      (IsFormatted format) document G) fail_on old new
+  accepted : (ending : Ending) → OfServed format inputs fail_on document ending old new
+      → OfReport (IsTextOfAccepted (IsServed format) document G) fail_on ending old new
+  accepted = report_weaker (IsServed format document inputs) (IsTextOfAccepted
+      (IsServed format) document G) fail_on old new
       (λ IsSaid text. accepted_text format document G inputs IsSaid text are)
 
-  pub service_of_judgement : (ending : Ending) → ReadLeaves (OfFormat format inputs fail_on document) ending old new
-      → ReadLeaves (OfConnections (IsFormatted format) G MayNotServe IsKept fail_on document) ending old new
+  pub service_of_judgement : (ending : Ending) → ReadLeaves (OfServed format inputs fail_on document) ending old new
+      → ReadLeaves (OfConnections (IsServed format) G MayNotServe IsKept fail_on document) ending old new
   service_of_judgement Success left = accepted Success left
   service_of_judgement Negative left = accepted Negative left
   service_of_judgement Alarm left = accepted Alarm left
@@ -141,7 +141,7 @@ concluded_is_judged fail_on (formats.Refused refusal) is = cc
 pub refused_outcome : (format : Format) (document : Inquiry) (inputs : List Source)
     (end : Result programs.Report EngineFault)
     (old new : Option (List ℕ)) (fault : DocumentFault) → DocumentNotRefused → IsRefusedDocument document fault
-    → ReadLeaves (OfFormat format inputs [] document) (judgement_ending [] end) old new
+    → ReadLeaves (OfServed format inputs [] document) (judgement_ending [] end) old new
     → IfOk end (λ report. is_judged (report_view report) ≡ false)
 refused_outcome format document inputs (Err fault) old new refusal not_refused refused left = tt
 refused_outcome format document inputs (Ok (Refused r)) old new refusal not_refused refused left = refl
@@ -156,9 +156,9 @@ refused_outcome format document inputs (Ok (Judged processes events messages ans
 
 accepted_of_file : (format : Format) (options : Options) (read document : List ℕ) (G : Source → Type 0)
     (IsSaid : Report → Type 0)
-    (text : List ℕ) → SameOutline options read document → IsTextOfAccepted (IsFormatted format)
+    (text : List ℕ) → SameOutline options read document → IsTextOfAccepted (IsServed format)
     (inquiry_of options read) G IsSaid text
-    → IsTextOfAccepted (IsFormatted format) (inquiry_of options document) G IsSaid text
+    → IsTextOfAccepted (IsServed format) (inquiry_of options document) G IsSaid text
 accepted_of_file format options read document G IsSaid text same h = record {
   inputs = h.inputs;
   accepted = h.accepted;
@@ -171,16 +171,16 @@ accepted_of_file format options read document G IsSaid text same h = record {
 module _ (format : Format) (options : Options) (read document : List ℕ) (G : Source → Type 0)
     (MayNotServe IsKept : Type 0)
     (fail_on : List Condition) (old new : Option (List ℕ)) (same : SameOutline options read document) where
-  of_file : (ending : Ending) → OfReport (IsTextOfAccepted (IsFormatted format)
+  of_file : (ending : Ending) → OfReport (IsTextOfAccepted (IsServed format)
       (inquiry_of options read) G) fail_on ending old new
-      → OfReport (IsTextOfAccepted (IsFormatted format) (inquiry_of options document) G) fail_on ending old new
-  of_file = report_weaker (IsTextOfAccepted (IsFormatted format) (inquiry_of options read) G)
-      (IsTextOfAccepted (IsFormatted format) (inquiry_of options document) G) fail_on old new
+      → OfReport (IsTextOfAccepted (IsServed format) (inquiry_of options document) G) fail_on ending old new
+  of_file = report_weaker (IsTextOfAccepted (IsServed format) (inquiry_of options read) G)
+      (IsTextOfAccepted (IsServed format) (inquiry_of options document) G) fail_on old new
       (λ IsSaid text. accepted_of_file format options read document G IsSaid text same)
 
   connections_of_file : (ending : Ending)
-      → OfConnections (IsFormatted format) G MayNotServe IsKept fail_on (inquiry_of options read) ending old new
-      → OfConnections (IsFormatted format) G MayNotServe IsKept fail_on (inquiry_of options document) ending old new
+      → OfConnections (IsServed format) G MayNotServe IsKept fail_on (inquiry_of options read) ending old new
+      → OfConnections (IsServed format) G MayNotServe IsKept fail_on (inquiry_of options document) ending old new
   connections_of_file Success left = of_file Success left
   connections_of_file Negative left = of_file Negative left
   connections_of_file Alarm left = of_file Alarm left
@@ -200,12 +200,12 @@ pub service_of_file : (format : Format) (options : Options) (file : File) (read 
     (G : Source → Type 0)
     (MayNotServe IsKept : Type 0) (fail_on : List Condition) (ending : Ending) (old new : Option (List ℕ))
     → IsReadOf read file.source
-    → ReadLeaves (OfNamed fail_on (OfConnections (IsFormatted format) G MayNotServe IsKept fail_on)
+    → ReadLeaves (OfNamed fail_on (OfConnections (IsServed format) G MayNotServe IsKept fail_on)
     (inquiry_of options read)) ending old new
-    → LeavesOf options file IsUnread (OfNamed fail_on (OfConnections (IsFormatted format) G MayNotServe IsKept
+    → LeavesOf options file IsUnread (OfNamed fail_on (OfConnections (IsServed format) G MayNotServe IsKept
     fail_on)) ending old new
 service_of_file format options file read IsUnread G MayNotServe IsKept fail_on ending old new is left =
-    let P = OfConnections (IsFormatted format) G MayNotServe IsKept fail_on in
+    let P = OfConnections (IsServed format) G MayNotServe IsKept fail_on in
     leaves_of_read options file read IsUnread (OfNamed fail_on P (inquiry_of options read)) (OfNamed fail_on P) old new
     is
     (λ document same. named_of_file fail_on options read document P P old new same
@@ -214,8 +214,8 @@ service_of_file format options file read IsUnread G MayNotServe IsKept fail_on e
 -- ---- a session that is kept
 
 any_accepted : (format : Format) (document : Inquiry) (G : Source → Type 0) (IsSaid : Report → Type 0) (text : List ℕ)
-    → IsTextOfAccepted (IsFormatted format) document G IsSaid text → IsTextOfAccepted
-    (IsFormatted format) document G IsAnyReport text
+    → IsTextOfAccepted (IsServed format) document G IsSaid text → IsTextOfAccepted
+    (IsServed format) document G IsAnyReport text
 any_accepted format document G IsSaid text h = record {
   inputs = h.inputs;
   accepted = h.accepted;
@@ -228,7 +228,7 @@ module _ (format : Format) (document : Inquiry) (G : Source → Type 0) (MayNotS
     (fail_on : List Condition)
     (old new : Option (List ℕ)) where
   abbrev Leaves : Ending → Type 0
-  Leaves ending = ReadLeaves (OfConnections (IsFormatted format) G MayNotServe IsKept fail_on document) ending old new
+  Leaves ending = ReadLeaves (OfConnections (IsServed format) G MayNotServe IsKept fail_on document) ending old new
 
   -- all of a report is written, whatever it comes to
   unkept_left : (end : Conclusion) → Leaves (concluded_ending end) → Leaves (Failed WriteFailure)
@@ -261,12 +261,12 @@ pub named_service : (format : Format) (document : Inquiry) (G : Source → Type 
     (end : Result programs.Report ServiceFault) (result : Result (Option programs.Report) ServiceFault)
     (old new : Option (List ℕ)) → HasNamed fail_on document
     → named_service_ending fail_on result ≡ service_ending fail_on end
-    → ReadLeaves (OfConnections (IsFormatted format) G MayNotServe IsKept fail_on document)
+    → ReadLeaves (OfConnections (IsServed format) G MayNotServe IsKept fail_on document)
     (service_ending fail_on end) old new
-    → ReadLeaves (OfNamed fail_on (OfConnections (IsFormatted format) G MayNotServe IsKept fail_on) document)
+    → ReadLeaves (OfNamed fail_on (OfConnections (IsServed format) G MayNotServe IsKept fail_on) document)
     (named_service_ending fail_on result) old new
 named_service format document G MayNotServe IsKept fail_on end result old new has same left =
-    let P = OfConnections (IsFormatted format) G MayNotServe IsKept fail_on in
+    let P = OfConnections (IsServed format) G MayNotServe IsKept fail_on in
     subst (λ (e : Ending). ReadLeaves (OfNamed fail_on P document) e old new) (sym same)
     (with_named fail_on P document old new has (λ never. never) (service_ending fail_on end) left)
 
@@ -276,23 +276,23 @@ pub refused_service : (format : Format) (document : Inquiry) (G : Source → Typ
     (result : Result (Option programs.Report) ServiceFault) (old new : Option (List ℕ)) → DocumentNotRefused
     → IsFaultOf document fault → (is_out_of_memory fault ≡ true → end ≡ Err (Engine Memory))
     → named_service_ending fail_on result ≡ service_ending fail_on end
-    → ReadLeaves (OfConnections (IsFormatted format) G MayNotServe IsKept fail_on document)
+    → ReadLeaves (OfConnections (IsServed format) G MayNotServe IsKept fail_on document)
     (service_ending fail_on end) old new
-    → ReadLeaves (OfNamed fail_on (OfConnections (IsFormatted format) G MayNotServe IsKept fail_on) document)
+    → ReadLeaves (OfNamed fail_on (OfConnections (IsServed format) G MayNotServe IsKept fail_on) document)
     (named_service_ending fail_on result) old new
 refused_service format document G MayNotServe IsKept fail_on fault end result old new not_refused is_fault memory same
     left =
     go (is_out_of_memory fault) refl
   where
     go : (b : Bool) → is_out_of_memory fault ≡ b
-        → ReadLeaves (OfNamed fail_on (OfConnections (IsFormatted format) G MayNotServe IsKept fail_on) document)
+        → ReadLeaves (OfNamed fail_on (OfConnections (IsServed format) G MayNotServe IsKept fail_on) document)
         (named_service_ending fail_on result) old new
     go true is =
         subst (λ (e : Ending). ReadLeaves (OfNamed fail_on (OfConnections
-        (IsFormatted format) G MayNotServe IsKept fail_on) document) e
+        (IsServed format) G MayNotServe IsKept fail_on) document) e
         old new) (sym (same ∙ ap (service_ending fail_on) (memory is)))
         (subst (λ (e : Result programs.Report ServiceFault). ReadLeaves (OfConnections
-        (IsFormatted format) G MayNotServe IsKept fail_on
+        (IsServed format) G MayNotServe IsKept fail_on
         document) (service_ending fail_on e) old new) (memory is) left)
     go false is =
         let refused = refused_unless_memory document fault is is_fault in

@@ -1,4 +1,5 @@
 -- The modules of lemmas of this crate.
 mod Accepted
+pub mod ServedTexts
 mod Unfiled
 mod UnreadServices

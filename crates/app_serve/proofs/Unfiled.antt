@@ -9,7 +9,7 @@ use Rattle.judge_runs.specs.Wishes.{Condition}
 use Rattle.app_arguments.specs.Statuses.{HoldsDocument, OfConnections}
 use Rattle.app_arguments.specs.Formats.{Format}
 use Rattle.app_host.specs.FileSources.{ReadLeaves}
-use Rattle.app_host.specs.Formats.{IsFormatted}
+use Rattle.app_serve.specs.Served.{IsServed}
 use Rattle.app_serve.specs.ServiceFaults.{service_ending}
 use Rattle.app_serve.specs.declared.service_fault.ServiceFault.{ServiceFault}
 use Rattle.app_serve.specs.declared.service_fault.ServiceFault.TheVariants as faults
@@ -21,22 +21,22 @@ pub unfiled : (format : Format) (fail_on : List Condition) (document : Inquiry) 
     (keep port_file old : Option (List ℕ)) (result : Result Report ServiceFault) (fault : ServiceFault)
     → result ≡ Err fault
     → ((fault ≡ faults.Unkept) × (port_file ≢ None)) ⊎ (fault ≡ faults.Engine engine.Memory) → HoldsDocument document
-    → ReadLeaves (OfConnections (IsFormatted format) G MayNotServe (WritesFiles keep port_file) fail_on document)
+    → ReadLeaves (OfConnections (IsServed format) G MayNotServe (WritesFiles keep port_file) fail_on document)
     (service_ending fail_on result) old old
 unfiled format fail_on document G MayNotServe keep port_file old result fault is (inl fails) holds =
     subst (λ (r : Result Report ServiceFault).
-    ReadLeaves (OfConnections (IsFormatted format) G MayNotServe (WritesFiles keep port_file) fail_on document)
+    ReadLeaves (OfConnections (IsServed format) G MayNotServe (WritesFiles keep port_file) fail_on document)
     (service_ending fail_on r) old old)
     (sym is) (subst (λ (f : ServiceFault).
-    ReadLeaves (OfConnections (IsFormatted format) G MayNotServe (WritesFiles keep port_file) fail_on document)
+    ReadLeaves (OfConnections (IsServed format) G MayNotServe (WritesFiles keep port_file) fail_on document)
     (service_ending fail_on (Err f)) old old)
     (sym fails.0) (inr (inr fails.1, holds, keeps_same old)))
 unfiled format fail_on document G MayNotServe keep port_file old result fault is (inr memory) holds =
     subst (λ (r : Result Report ServiceFault).
-    ReadLeaves (OfConnections (IsFormatted format) G MayNotServe (WritesFiles keep port_file) fail_on document)
+    ReadLeaves (OfConnections (IsServed format) G MayNotServe (WritesFiles keep port_file) fail_on document)
     (service_ending fail_on r) old old)
     (sym is) (subst (λ (f : ServiceFault).
-    ReadLeaves (OfConnections (IsFormatted format) G MayNotServe (WritesFiles keep port_file) fail_on document)
+    ReadLeaves (OfConnections (IsServed format) G MayNotServe (WritesFiles keep port_file) fail_on document)
     (service_ending fail_on (Err f)) old old)
     (sym memory) (keeps_same old))
 
@@ -46,14 +46,14 @@ pub unkept : (format : Format) (fail_on : List Condition) (document : Inquiry) (
     (keep port_file old : Option (List ℕ)) (result : Result Report ServiceFault) (fault : ServiceFault)
     → result ≡ Err fault
     → ((fault ≡ faults.Unkept) × (keep ≢ None)) ⊎ (fault ≡ faults.Engine engine.Memory) → HoldsDocument document
-    → ReadLeaves (OfConnections (IsFormatted format) G MayNotServe (WritesFiles keep port_file) fail_on document)
+    → ReadLeaves (OfConnections (IsServed format) G MayNotServe (WritesFiles keep port_file) fail_on document)
     (service_ending fail_on result) old old
 unkept format fail_on document G MayNotServe keep port_file old result fault is (inl fails) holds =
     subst (λ (r : Result Report ServiceFault).
-    ReadLeaves (OfConnections (IsFormatted format) G MayNotServe (WritesFiles keep port_file) fail_on document)
+    ReadLeaves (OfConnections (IsServed format) G MayNotServe (WritesFiles keep port_file) fail_on document)
     (service_ending fail_on r) old old)
     (sym is) (subst (λ (f : ServiceFault).
-    ReadLeaves (OfConnections (IsFormatted format) G MayNotServe (WritesFiles keep port_file) fail_on document)
+    ReadLeaves (OfConnections (IsServed format) G MayNotServe (WritesFiles keep port_file) fail_on document)
     (service_ending fail_on (Err f)) old old)
     (sym fails.0) (inr (inl fails.1, holds, keeps_same old)))
 unkept format fail_on document G MayNotServe keep port_file old result fault is (inr memory) holds =

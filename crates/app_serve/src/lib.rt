@@ -1,6 +1,7 @@
 //! Judges a session whose streams come by connections, and keeps it, if that is asked for.
 //!
 //! - `server`: judges a session whose streams come by connections
+//! - `served`: judges the streams, and writes the report in the format that is asked for
 //! - `arrivals`: accepts the connections that are streams
 //! - `strangers`: tells of those that are closed before they are streams
 //! - `host`: what a server works with
@@ -33,6 +34,7 @@ mod place_names;
 mod port_file;
 mod recording_source;
 mod senders;
+mod served;
 mod server;
 mod service_fault;
 mod service_notices;

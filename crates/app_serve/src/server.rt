@@ -2,8 +2,8 @@
 ghost use Rattle.app_arguments.specs.Places as places;
 ghost use Rattle.app_arguments.specs.Views.{format_view, place_view};
 ghost use Rattle.app_host.specs.FileSources.{IsReadOf, ReadLeaves};
-ghost use Rattle.app_host.specs.Formats.{IsFormatted, OfFormat};
 ghost use Rattle.app_serve.specs.Kept.{AsksForFiles, WritesFiles};
+ghost use Rattle.app_serve.specs.Served.{IsServed, OfServed};
 ghost use Rattle.app_serve.specs.Watched.{IsBeside};
 ghost use Rattle.app_serve.specs.ServiceFaults.{named_service_ending, service_ending};
 ghost use Rattle.app_host.specs.Faults.{is_out_of_memory, judgement_ending};
@@ -27,20 +27,18 @@ use super::peer::Peer;
 use super::place_names::{watchers_path, watchers_port};
 use super::port_file::write_port_file;
 use super::recording_source::RecordingSource;
+use super::served::judge_served;
 use super::service_fault::ServiceFault;
 use super::service_notices::ServiceNotices;
 use super::watchers::Watchers;
 use app_arguments::{Format, Place, Workers};
 use app_door::Room;
 use app_host::{
-    FileSource, Network, NotedSource, System, World, is_out_of_memory, judge_read, open_noted,
-    read_document, write_report,
+    FileSource, Network, NotedSource, System, World, is_out_of_memory, open_noted, read_document,
 };
 use def_judgement::one_document;
 use judge_session::EngineFault;
-use pd_engine::{
-    ByteSource, Crew, Inquiry, NoGate, Observer, Report, Spec, SpecFault, report_inquiry_watched,
-};
+use pd_engine::{ByteSource, Crew, Inquiry, NoGate, NoObserver, Observer, Report, Spec, SpecFault};
 use std::alloc::{AllocError, Global};
 use std::io::Write;
 use std::random::RandomSource;
@@ -252,11 +250,11 @@ fn service_end(end: Result<Report, EngineFault>) -> Result<Report, ServiceFault>
     }
 }
 
-/// Judges a document, with what is asked, and the streams while the observer runs, writes the report in the format that
-/// is asked for, and flushes the output. It gives the report.
+/// Judges a document, with what is asked, and the streams while the observer watches, writes the report in the format
+/// that is asked for, and flushes the output. It gives the report.
 ///
 /// # Errors
-/// `Memory` leaves nothing written. `Write` leaves a part of the report written, or all of it if only the flush failed.
+/// As `judge_served`.
 fn judge_accepted<
     S: RandomSource + Threads + Wait + Sync,
     F: FileSource,
@@ -273,15 +271,17 @@ fn judge_accepted<
     output: &mut O,
 ) -> Result<Report, EngineFault>
     requires { All (λ stream. R.has_ended stream ≡ false) streams.items }
-    ensures written { (fail_on : List Condition) → ReadLeaves (OfFormat (format_view host.now.service.now.format)
+    ensures written { (fail_on : List Condition) → ReadLeaves (OfServed (format_view host.now.service.now.format)
         (map R.left streams.items) fail_on (inquiry_view inquiry.entry)) (judgement_ending fail_on result)
         (O.contents output.old) (O.contents output.new) }
     ensures err { IfErr result (λ fault. (fault ≡ EngineFault.Memory) ⊎ (fault ≡ EngineFault.Write)) }
 {
     let service = host.service;
     let crew = Crew::new(rt, service.workers.count(), host.gate);
-    let report = report_inquiry_watched(&crew, host.alloc, inquiry, streams, observer)?;
-    write_report(host.alloc, inquiry, report, service.format, output)
+    let format = service.format;
+    judge_served(
+        &crew, host.alloc, inquiry, streams, format, observer, output,
+    )
 }
 
 /// Binds the places, begins to keep the session, if it is to be kept, writes the file of the port, if there is to be
@@ -304,7 +304,7 @@ fn serve_session<
 ) -> Result<Report, ServiceFault>
     requires document { IsDocument (inquiry_view inquiry) (document_view spec.now) }
     ensures written { (fail_on : List Condition) → ReadLeaves (OfConnections
-        (IsFormatted (format_view host.now.service.now.format)) (N.may_give host.now.network.now
+        (IsServed (format_view host.now.service.now.format)) (N.may_give host.now.network.now
         (place_view host.now.service.now.place))
         (ServiceMayFail host.now.service.now.wait N.never_fails) (AsksForFiles host.now.service.now) fail_on
         (inquiry_view inquiry.entry)) (service_ending fail_on result) (O.contents output.old) (O.contents output.new) }
@@ -338,7 +338,7 @@ fn serve_session<
 /// Judges a document, with what is asked, and no streams, writes the report in this format, and flushes the output.
 ///
 /// # Errors
-/// As `judge_read`.
+/// As `judge_served`.
 fn judge_no_streams<Y: System, O: Write>(
     world: &World<'_, Y>,
     inquiry: Inquiry<'_, '_, '_>,
@@ -346,13 +346,22 @@ fn judge_no_streams<Y: System, O: Write>(
     format: Format,
     output: &mut O,
 ) -> Result<Report, EngineFault>
-    ensures written { (fail_on : List Condition) → ReadLeaves (OfFormat (format_view format) [] fail_on
+    ensures written { (fail_on : List Condition) → ReadLeaves (OfServed (format_view format) [] fail_on
         (inquiry_view inquiry.entry)) (judgement_ending fail_on result) (O.contents output.old)
         (O.contents output.new) }
     ensures err { IfErr result (λ fault. (fault ≡ EngineFault.Memory) ⊎ (fault ≡ EngineFault.Write)) }
 {
     let streams = Vec::<<Y::Network as Network>::Connection>::new(world.alloc);
-    judge_read(world, inquiry, streams, workers, format, &NoGate, output)
+    let crew = Crew::new(world.rt, workers.count(), &NoGate);
+    judge_served(
+        &crew,
+        world.alloc,
+        inquiry,
+        streams,
+        format,
+        &NoObserver,
+        output,
+    )
 }
 
 /// Reports why a document is refused. No place is bound.
@@ -369,7 +378,7 @@ fn refuse_document<Y: System, O: Write>(
     requires { IsFaultOf (inquiry_view inquiry) fault.now }
     ensures written { (place : places.Place) (fail_on : List Condition) (wait : Option ℕ)
         (keep port_file : Option (List ℕ)) → ReadLeaves (OfConnections
-        (IsFormatted (format_view host.now.service.now.format)) (Y.Network.may_give host.now.network.now place)
+        (IsServed (format_view host.now.service.now.format)) (Y.Network.may_give host.now.network.now place)
         (ServiceMayFail wait Y.Network.never_fails) (WritesFiles keep port_file) fail_on
         (inquiry_view inquiry.entry))
         (service_ending fail_on result) (O.contents output.old) (O.contents output.new) }
@@ -427,7 +436,7 @@ fn serve_kept<S: RandomSource + Threads + Wait + Sync, F: FileSource, N: Network
 ) -> Result<Report, ServiceFault>
     requires document { IsDocument (inquiry_view inquiry) (document_view spec.now) }
     ensures { (fail_on : List Condition) → ReadLeaves (OfConnections
-        (IsFormatted (format_view host.now.service.now.format)) (N.may_give host.now.network.now
+        (IsServed (format_view host.now.service.now.format)) (N.may_give host.now.network.now
         (place_view host.now.service.now.place))
         (ServiceMayFail host.now.service.now.wait N.never_fails) (AsksForFiles host.now.service.now) fail_on
         (inquiry_view inquiry.entry)) (service_ending fail_on result) (O.contents output.old) (O.contents output.new) }
@@ -462,7 +471,7 @@ fn serve_named<S: RandomSource + Threads + Wait + Sync, F: FileSource, N: Networ
 ) -> Result<Option<Report>, ServiceFault>
     requires document { IsDocument (inquiry_view inquiry) (document_view spec.now) }
     ensures { ReadLeaves (OfNamed (fail_on_view host.now.service.now.fail_on) (OfConnections
-        (IsFormatted (format_view host.now.service.now.format)) (N.may_give host.now.network.now
+        (IsServed (format_view host.now.service.now.format)) (N.may_give host.now.network.now
         (place_view host.now.service.now.place))
         (ServiceMayFail host.now.service.now.wait N.never_fails) (AsksForFiles host.now.service.now)
         (fail_on_view host.now.service.now.fail_on)) (inquiry_view inquiry.entry))
@@ -493,7 +502,7 @@ fn serve_document<Y: System, O: Write>(
     output: &mut O,
 ) -> Result<Option<Report>, ServiceFault>
     ensures { ReadLeaves (OfNamed (fail_on_view host.now.service.now.fail_on) (OfConnections
-        (IsFormatted (format_view host.now.service.now.format)) (Y.Network.may_give host.now.network.now
+        (IsServed (format_view host.now.service.now.format)) (Y.Network.may_give host.now.network.now
         (place_view host.now.service.now.place)) (ServiceMayFail host.now.service.now.wait
         Y.Network.never_fails) (AsksForFiles host.now.service.now) (fail_on_view
         host.now.service.now.fail_on)) (inquiry_of (options_view host.now.service.now.options) document.now))
@@ -553,7 +562,7 @@ pub fn serve<Y: System, O: Write>(
         host.now.files.now host.now.service.now.spec.now) (MayBeUnread (Y.Files.file_of host.now.files.now
         host.now.service.now.spec.now ∷ []) (Y.Files.file_of host.now.files.now host.now.service.now.spec.now ∷ []))
         (OfNamed (fail_on_view host.now.service.now.fail_on) (OfConnections
-        (IsFormatted (format_view host.now.service.now.format)) (Y.Network.may_give host.now.network.now
+        (IsServed (format_view host.now.service.now.format)) (Y.Network.may_give host.now.network.now
         (place_view host.now.service.now.place)) (ServiceMayFail host.now.service.now.wait Y.Network.never_fails)
         (AsksForFiles host.now.service.now) (fail_on_view host.now.service.now.fail_on)))
         (named_service_ending (fail_on_view host.now.service.now.fail_on) result) (O.contents output.old)

@@ -19,10 +19,11 @@ use Rattle.app_arguments.specs.Formats.{Format, Plain, Json}
 use Rattle.app_arguments.specs.Places.{Place}
 use Rattle.app_arguments.specs.Statuses.{Alarm, BundleFailure, BundleRuns, CheckFiles, ComesTo, DrawFiles, Ending, Ends, ExploreFiles, Failed, Failure, File, HasNamed as HasNamedBy, HelpLeaves, InferDocument, IsTextOfAccepted, JudgeFiles, JudgeInput, JudgeLines, JudgementLeaves, LacksNamed, LeavesOf, MayBeUnread, MemoryFailure, MergeLines, Misuse, MisuseLeaves, Negative, NetworkFailure, NoPredicate, OfClaim, OfConnections, OfDocument, OfFinding, OfNamed, OfReport, OfStreams, ReadFailure, Reports, Request, ServeStreams, ServiceMayFail, ShowHelp, ShowVersion, Success, TestRuns, Unclear, VersionLeaves, WriteFailure, WritesUpTo, sources_of, status_of}
 use Rattle.app_host.proofs.FilesRead.{up_to_weaker}
-use Rattle.app_host.proofs.JsonReports.{weaker_said_in}
 use Rattle.app_host.specs.FileSources.{bytes_in}
-use Rattle.app_host.specs.Formats.{IsFindingIn, IsFormatted}
+use Rattle.app_host.specs.Formats.{IsFindingIn}
 use Rattle.app_serve.specs.Kept.{WritesFiles}
+use Rattle.app_serve.specs.Served.{IsServed}
+use Rattle.app_serve.proofs.ServedTexts.{weaker_said_in}
 use Rattle.app_test.specs.Tests.{IsTestText, TestLeaves}
 use Rattle.judge_explore.proofs.Written.{owed_weaker}
 use Rattle.judge_runs.specs.Runs.{Fail, NotJudged, Run, conclusion_by, count_of, verdict_of_run}
@@ -240,7 +241,7 @@ module _ (options : Options) (document : File) (IsUnread : Type 0) (fail_on : Li
 -- ---- connections
 
 accepted_follows : (format : Format) (inquiry : Inquiry) (G : Source → Type 0)
-    → Follows (IsTextOfAccepted (IsFormatted format) inquiry G)
+    → Follows (IsTextOfAccepted (IsServed format) inquiry G)
 accepted_follows format inquiry G P Q text go h = record {
   inputs = h.inputs;
   accepted = h.accepted;
@@ -256,10 +257,10 @@ module _ (format : Format) (G : Source → Type 0) (network_serves : Bool) (wait
       ((ending ≡ Failed NetworkFailure) × (wait ≡ None → network_serves ≡ true → ⊥)
       ⊎ (ending ≡ Failed WriteFailure) × ((keep ≢ None) ⊎ (port_file ≢ None)))
       × ((document : Document) × IsDocument inquiry document) × Keeps old new
-      ⊎ LeavesReport (IsTextOfAccepted (IsFormatted format) inquiry G) fail_on ending old new
+      ⊎ LeavesReport (IsTextOfAccepted (IsServed format) inquiry G) fail_on ending old new
 
   connections_left : (inquiry : Inquiry) (ending : Ending)
-      → OfConnections (IsFormatted format) G (ServiceMayFail wait network_serves) (WritesFiles keep port_file) fail_on
+      → OfConnections (IsServed format) G (ServiceMayFail wait network_serves) (WritesFiles keep port_file) fail_on
       inquiry ending old new
       → Served inquiry ending old new
   connections_left inquiry Success h =
@@ -552,7 +553,7 @@ module _ (input : Source) (files : List ℕ → File) (connections : Place → S
   ran (ServeStreams options fail_on format document place port_file watchers wait keep) =
       by_rule _ _ status old new errors_old errors_new
       (session_left options (files document) (MayBeUnread (files document ∷ []) (files document ∷ [])) fail_on
-      (OfConnections (IsFormatted format) (connections place) (ServiceMayFail wait network_serves)
+      (OfConnections (IsServed format) (connections place) (ServiceMayFail wait network_serves)
       (WritesFiles keep port_file) fail_on)
       (Served format (connections place) network_serves wait port_file keep fail_on old new) old new
       (connections_left format (connections place) network_serves wait port_file keep fail_on old new))

@@ -8,9 +8,10 @@ use Rattle.app_arguments.specs.Arguments.{AsksFor}
 use Rattle.app_arguments.specs.Statuses.{CheckFiles, DrawFiles, Ending, Ends, ExploreFiles, Failed, File, HelpLeaves, BundleRuns, InferDocument, JudgeFiles, JudgeInput, JudgeLines, JudgementLeaves, LeavesOf, MayBeUnread, MemoryFailure, MergeLines, MisuseLeaves, OfConnections, OfFinding, OfNamed, Request, ServeStreams, ServiceMayFail, ShowHelp, ShowVersion, TestRuns, Unclear, UnreadClaim, VersionLeaves, sources_of}
 use Rattle.app_draw.specs.ShownDrawings.{EndsShown}
 use Rattle.app_explore.specs.Explorations.{AskedPage, ExplorationLeaves, FilesLeave}
-use Rattle.app_host.specs.Formats.{IsFindingIn, IsFormatted}
+use Rattle.app_host.specs.Formats.{IsFindingIn}
 use Rattle.app_arguments.specs.Places.{Place}
 use Rattle.app_serve.specs.Kept.{WritesFiles}
+use Rattle.app_serve.specs.Served.{IsServed}
 use Rattle.app_infer.specs.Inferences.{EndsInferred}
 use Rattle.app_test.specs.Tests.{TestLeaves}
 use Rattle.app_batch.specs.Batches.{BatchLeaves}
@@ -37,7 +38,7 @@ Leaves input files connections network_serves (DrawFiles options scope document 
 Leaves input files connections network_serves
     (ServeStreams options fail_on format document place port_file watchers wait keep) =
     By (LeavesOf options (files document) (MayBeUnread (files document ∷ []) (files document ∷ []))
-    (OfNamed fail_on (OfConnections (IsFormatted format) (connections place) (ServiceMayFail wait network_serves)
+    (OfNamed fail_on (OfConnections (IsServed format) (connections place) (ServiceMayFail wait network_serves)
     (WritesFiles keep port_file) fail_on)))
 Leaves input files connections network_serves (ExploreFiles options fail_on page document streams) =
     By (ExplorationLeaves files options fail_on (AskedPage page) document streams)

@@ -14,8 +14,9 @@ use Rattle.app_arguments.specs.Statuses.{Alarm, BundleFailure, BundleRuns, Check
 use Rattle.judge_runs.specs.Runs.{Fail, NotJudged, Run, count_of, verdict_of_run}
 use Rattle.judge_runs.specs.Wishes.{Condition, lacks_name}
 use Rattle.app_host.specs.FileSources.{bytes_in}
-use Rattle.app_host.specs.Formats.{IsFindingIn, IsFormatted}
+use Rattle.app_host.specs.Formats.{IsFindingIn}
 use Rattle.app_infer.specs.Inferences.{EndsInferred}
+use Rattle.app_serve.specs.Served.{IsServed}
 use Rattle.app_test.specs.Tests.{IsTestText}
 use Rattle.app_batch.specs.Batches.{BatchLeaves}
 use Rattle.app_bundle.specs.Bundles.{BundleLeaves}
@@ -142,7 +143,7 @@ Leaves input files connections network_serves
     ((ending ≡ Failed NetworkFailure) × (wait ≡ None → network_serves ≡ true → ⊥)
     ⊎ (ending ≡ Failed WriteFailure) × ((keep ≢ None) ⊎ (port_file ≢ None)))
     × ((document : Document) × IsDocument inquiry document) × Keeps old new
-    ⊎ LeavesReport (IsTextOfAccepted (IsFormatted format) inquiry (connections place)) fail_on ending old new))
+    ⊎ LeavesReport (IsTextOfAccepted (IsServed format) inquiry (connections place)) fail_on ending old new))
 Leaves input files connections network_serves (ExploreFiles options fail_on page document streams) =
     By (OfSession options (files document)
     (MayBeUnread (files document ∷ map files streams) (files document ∷ [])

@@ -1,6 +1,7 @@
 //! One run of the program.
 ghost use Rattle.app_arguments.specs.Views.{place_view};
 ghost use Rattle.app_serve.specs.Kept.{AsksForFiles};
+ghost use Rattle.app_serve.specs.Served.{IsServed};
 ghost use Rattle.app_arguments.specs.Arguments.{AsksFor};
 ghost use Rattle.app_draw.specs.Drawings.{EndsDrawn};
 ghost use Rattle.pd_cli.specs.Explained.{Explained};
@@ -12,7 +13,7 @@ ghost use Rattle.out_picture.specs.Scopes.{scope_view};
 ghost use Rattle.app_arguments.specs.ConditionViews.{fail_on_view};
 ghost use Rattle.app_arguments.specs.Statuses.{Ends, JudgeInput, JudgementLeaves, LeavesOf, MayBeUnread, OfConnections, OfFinding, OfNamed, ServiceMayFail, UnreadClaim, sources_of};
 ghost use Rattle.app_arguments.specs.Views.{format_view, names_view, page_view, session_view};
-ghost use Rattle.app_host.specs.Formats.{IsFindingIn, IsFormatted};
+ghost use Rattle.app_host.specs.Formats.{IsFindingIn};
 ghost use Rattle.app_batch.specs.Batches.{BatchLeaves};
 ghost use Rattle.app_bundle.specs.Bundles.{BundleLeaves};
 ghost use Rattle.app_infer.specs.Inferences.{EndsInferred};
@@ -110,7 +111,7 @@ fn run_service<Y: System, O: Write, E: Write>(
     ensures { Explained world.now.explain (λ start. Ends (λ ending. LeavesOf (options_view service.now.options)
         (Y.Files.file_of world.now.files.now service.now.spec.now) (MayBeUnread (Y.Files.file_of world.now.files.now
         service.now.spec.now ∷ []) (Y.Files.file_of world.now.files.now service.now.spec.now ∷ []))
-        (OfNamed (fail_on_view service.now.fail_on) (OfConnections (IsFormatted (format_view service.now.format))
+        (OfNamed (fail_on_view service.now.fail_on) (OfConnections (IsServed (format_view service.now.format))
         (Y.Network.may_give world.now.network.now (place_view service.now.place)) (ServiceMayFail service.now.wait
         Y.Network.never_fails) (AsksForFiles service.now) (fail_on_view service.now.fail_on))) ending
         (O.contents output.old) (O.contents output.new)) result start (E.contents errors.new)) (E.contents errors.old) }

@@ -1,15 +1,13 @@
 -- What a judgement leaves written by the files of these names.
 use Rattle.std.proofs.Common.{List, ℕ, [], ◌∷◌, Err, ap, map, subst, sym}
 use Rattle.app_arguments.specs.ConditionViews.{fail_on_view}
-use Rattle.app_arguments.specs.Formats.{Plain}
 use Rattle.app_arguments.specs.Statuses.{MayBeUnread, OfNamed, OfStreams, sources_of}
 use Rattle.app_arguments.specs.Views.{session_view}
 use Rattle.def_format.specs.Documents.{inquiry_of}
 use Rattle.pd_spec.specs.Views.{options_view}
 use Rattle.app_host.specs.Faults.{named_ending}
 use Rattle.app_host.specs.FileSources.{IsReadOf}
-use Rattle.app_host.proofs.FilesRead.{leaves_of_read}
-use Rattle.app_host.proofs.JsonReports.{formatted_of_files}
+use Rattle.app_host.proofs.FilesRead.{judgement_of_files, leaves_of_read}
 use Rattle.app_host.proofs.NamedPredicates.{named_of_file}
 use Rattle.app_host.proofs.UnreadFiles.{unread_judgement}
 use Rattle.app_host.proofs.judgements.judge_files.Goals as goal
@@ -32,7 +30,7 @@ returns-in-Ok g c =
     (OfNamed fail_on (OfStreams sources fail_on)) old new read
     (λ bytes same. named_of_file fail_on options c.deref.result.now bytes (OfStreams lefts fail_on)
     (OfStreams sources fail_on) old new same
-    (formatted_of_files Plain options c.deref.result.now bytes sources lefts fail_on old new
+    (judgement_of_files options c.deref.result.now bytes sources lefts fail_on old new
     c.in-Ok.ensures.streams same))
     (named_ending fail_on c.judge_named.result) c.judge_named.ensures
 

@@ -13,4 +13,4 @@ returns-in-Err g c =
     with_named fail_on (OfStreams (map g.R.ByteSource.left c.args.streams.items) fail_on)
     (inquiry_view c.args.inquiry) (g.O.Write.contents c.args.output.now) (g.O.Write.contents c.judge_read.new.output)
     (c.in_ok-has_named.ensures.yes c.if-not-branch.false) (λ never. never)
-    (judgement_ending fail_on (Err c.in-Err.fault)) (c.in-Err.ensures.written fail_on)
+    (judgement_ending fail_on (Err c.in-Err.fault)) (c.in-Err.ensures fail_on)

@@ -9,7 +9,7 @@ use Rattle.app_serve.proofs.Accepted.{accepted_of_refused, refused_outcome, serv
 use Rattle.app_host.proofs.NamedPredicates.{refused_unless_memory}
 use Rattle.app_host.specs.Faults.{judgement_ending}
 use Rattle.app_host.specs.FileSources.{ReadLeaves}
-use Rattle.app_host.specs.Formats.{IsFormatted}
+use Rattle.app_serve.specs.Served.{IsServed}
 use Rattle.app_arguments.specs.Views.{format_view}
 use Rattle.app_serve.proofs.server.refuse_document.Goals as goal
 
@@ -20,7 +20,7 @@ returns-clause-written g c place fail_on wait keep port_file =
     let format = format_view c.args.host.now.service.now.format in
     let refused = refused_unless_memory document c.args.fault.now
     (sym c.is_out_of_memory.ensures ∙ c.if-is_out_of_memory.false) c.requires in
-    subst (λ (e : Ending). ReadLeaves (OfConnections (IsFormatted format) G
+    subst (λ (e : Ending). ReadLeaves (OfConnections (IsServed format) G
     (ServiceMayFail wait g.Y.Network.Network.never_fails)
     (WritesFiles keep port_file) fail_on document) e (g.O.Write.contents c.args.output.now)
     (g.O.Write.contents c.judge_no_streams-end.new.output))

@@ -7,7 +7,7 @@ use Rattle.pd_spec.specs.Views.{options_view}
 use Rattle.app_serve.specs.Kept.{AsksForFiles}
 use Rattle.app_serve.specs.ServiceFaults.{named_service_ending}
 use Rattle.app_host.specs.FileSources.{IsReadOf}
-use Rattle.app_host.specs.Formats.{IsFormatted}
+use Rattle.app_serve.specs.Served.{IsServed}
 use Rattle.app_serve.proofs.Accepted.{service_of_file}
 use Rattle.app_serve.proofs.UnreadServices.{unread_service}
 use Rattle.app_serve.proofs.server.serve.Goals as goal
@@ -32,7 +32,7 @@ returns-in-Err g c =
     let fail_on = fail_on_view service.fail_on in
     let file = g.Y.Files.FileSource.file_of c.args.host.now.files.now service.spec.now in
     unread_service (options_view service.options) file (MayBeUnread (file ∷ []) (file ∷ []))
-    (OfNamed fail_on (OfConnections (IsFormatted (format_view service.format))
+    (OfNamed fail_on (OfConnections (IsServed (format_view service.format))
     (g.Y.Network.Network.may_give c.args.host.now.network.now
     (place_view service.place))
     (ServiceMayFail service.wait g.Y.Network.Network.never_fails) (AsksForFiles service) fail_on))

@@ -12,7 +12,7 @@ use Rattle.app_serve.proofs.Accepted.{accepted_of_read, service_of_judgement}
 use Rattle.app_serve.proofs.Unfiled.{unfiled, unfiled_fault, unkept}
 use Rattle.app_host.specs.Faults.{judgement_ending}
 use Rattle.app_host.specs.FileSources.{ReadLeaves}
-use Rattle.app_host.specs.Formats.{IsFormatted}
+use Rattle.app_serve.specs.Served.{IsServed}
 use Rattle.app_serve.specs.declared.service_notices.ServiceNotices.{ServiceNotices}
 use Rattle.app_serve.specs.declared.recording_source.RecordingSource.{RecordingSource}
 use Rattle.pd_spec.specs.Views.{document_view}
@@ -37,7 +37,7 @@ returns-clause-written g c fail_on =
     let given = All-map G left streams (c.in_ok-streams.ensures.given place c.in_ok-listener.ensures.on) in
     let are = accepted_of_read document G (map left streams) (document_view c.args.spec.now)
     c.one_document.ensures.single c.one_document.ensures.not_refused c.requires.document given count in
-    subst (λ (e : Ending). ReadLeaves (OfConnections (IsFormatted format) G MayNotServe IsKept fail_on document) e
+    subst (λ (e : Ending). ReadLeaves (OfConnections (IsServed format) G MayNotServe IsKept fail_on document) e
     (g.O.Write.contents c.args.output.now) (g.O.Write.contents c.judge_accepted.new.output))
     (sym (c.service_end.ensures.ending fail_on))
     (service_of_judgement format fail_on document G (map left streams) MayNotServe IsKept
