@@ -2,8 +2,9 @@
 """json_results.py [PROGRAM] [--schema]: tests the recorded runs among the examples, and some that can't be judged, by
 `test` with several wishes, and compares what `--format json`, `--json` and `--junit` give with the lines: the fields of
 the object have to make the lines and the numbers again, the file of JSON has to be that object, and a parser of XML has
-to find the same runs, numbers and messages in the file of JUnit. Each of these runs is also put into a bundle, of which
-the same has to come as of the folder.
+to find the same runs, numbers and messages in the file of JUnit. The report of each run that fails has to be what
+`judge --beyond-width --format json` writes of it, and null if its stream is a pipe. Each of these runs is also put into
+a bundle, of which the same has to come as of the folder.
 
 With --schema it is looked instead whether docs/test.schema.json takes each object, and refuses faults that are put in.
 That needs the module jsonschema, Debian's python3-jsonschema, which is there for Debian's /usr/bin/python3.
@@ -59,6 +60,33 @@ def text_of(found):
     return "\n".join(lines + ["  " + line for line in failing[:5]] + orders) + "\n"
 
 
+def streams_of(folder, run):
+    """The names of the files of the streams of a run, in the document's order."""
+    with open(os.path.join(folder, run, "session.json"), "rb") as file:
+        return [f"{run}/{process['name']}.stream" for process in json.load(file)["processes"]]
+
+
+def judged(program, folder, run, wishes):
+    """What `judge` writes of a run as an object, with what the test asks of it beside its wishes."""
+    asked = wishes if wishes[:1] == ["--ask"] else []
+    words = [program, "judge", *asked, "--beyond-width", "--format", "json"]
+    if not run.endswith(".bundle"):
+        words += [f"{run}/session.json", *streams_of(folder, run)]
+        return json.loads(subprocess.run(words, cwd=folder, capture_output=True, check=False).stdout)
+    with open(os.path.join(folder, run), "rb") as file:
+        ran = subprocess.run([*words, "-"], cwd=folder, stdin=file, capture_output=True, check=False)
+    return json.loads(ran.stdout.replace(b" of standard input", f" of {run}".encode()))
+
+
+def compare_reports(program, folder, wishes, found):
+    """What differs between the reports of the runs that fail and what `judge` writes of them."""
+    due = [{"name": run["name"], "report": judged(program, folder, run["name"], wishes)}
+           for run in found["runs"] if run["outcome"] == "fail"]
+    if due == found["reports"]:
+        return []
+    return [f"the reports: {json.dumps(due)[:600]} and {json.dumps(found['reports'])[:600]}"]
+
+
 def tested(program, folder, wishes):
     """What a test writes as text, and as JSON, with its two files."""
     words = [program, "test", *runs(), *wishes]
@@ -94,12 +122,35 @@ def compare_bundles(program, folder, wishes):
     found = bundles(folder)
     words = [program, "test", *found.values(), *wishes, "--jobs", "3", "--format", "json"]
     ran = subprocess.run(words, cwd=folder, capture_output=True, check=False)
-    of_bundles = {run["name"]: run for run in json.loads(ran.stdout)["runs"]}
+    by_bundles = json.loads(ran.stdout)
+    of_bundles = {run["name"]: run for run in by_bundles["runs"]}
+    wrong = compare_reports(program, folder, wishes, by_bundles)
     ran = subprocess.run([program, "test", *found, *wishes, "--format", "json"], cwd=folder, capture_output=True,
                          check=False)
     of_folders = {run["name"]: run for run in json.loads(ran.stdout)["runs"]}
     pairs = [({**of_folders[run], "name": name}, of_bundles[name]) for run, name in found.items()]
-    return [f"the bundle of a folder: {str(one)[:300]} and {str(other)[:300]}" for one, other in pairs if one != other]
+    return wrong + [f"the bundle of a folder: {str(one)[:300]} and {str(other)[:300]}"
+                    for one, other in pairs if one != other]
+
+
+def compare_pipe(program, folder):
+    """What differs of a run that fails whose stream is a pipe, which gives nothing a second time."""
+    os.mkdir(os.path.join(folder, "piped"))
+    with open(os.path.join(folder, "piped", "session.json"), "w", encoding="utf-8") as file:
+        file.write('{"processes":[{"name":"a","vars":{"x":0}}],"predicates":[{"name":"bad","text":"a.x == 1"}]}')
+    pipe = os.path.join(folder, "piped", "a.stream")
+    os.mkfifo(pipe)
+    words = [program, "test", "piped", "--format", "json"]
+    with subprocess.Popen(words, cwd=folder, stdout=subprocess.PIPE) as test:
+        with open(pipe, "w", encoding="utf-8") as file:
+            file.write('{"process":"a"}\n{"set":{"x":1}}\n{"end":true}\n')
+        try:
+            found = json.loads(test.communicate(timeout=60)[0])
+        except subprocess.TimeoutExpired:
+            test.kill()
+            return ["a run whose stream is a pipe: no end"]
+    due = ["fail", [{"name": "piped", "report": None}]]
+    return [] if [found["outcome"], found["reports"]] == due else [f"a run whose stream is a pipe: {found}"]
 
 
 def compare(folder, text, as_json):
@@ -128,6 +179,9 @@ def faults_in(found):
     yield {**found, "outcome": "unknown"}
     yield {**found, "counts": {**found["counts"], "all": -1}}
     yield from ({**found, "orders": orders} for orders in (-1, 1.5, "1", [1]))
+    yield from ({**found, "reports": reports} for reports in (None, [1], [{"name": "a"}], [{"report": None}]))
+    for fault in ({"name": 1, "report": None}, {"name": "a", "report": None, "more": 1}, {"name": "a", "report": {}}):
+        yield {**found, "reports": [*found["reports"], fault]}
     for place, run in enumerate(found["runs"]):
         for fault in ({**run, "more": 1}, {**run, "outcome": "unknown"}, {"outcome": run["outcome"]}):
             yield {**found, "runs": [*found["runs"][:place], fault, *found["runs"][place + 1:]]}
@@ -168,10 +222,14 @@ def main():
             with open(os.path.join(folder, name, "session.json"), "w", encoding="utf-8") as file:
                 file.write(document)
         for wishes in WISHES:
-            found = look_by(folder, *tested(program, folder, wishes))
+            text, as_json = tested(program, folder, wishes)
+            found = look_by(folder, text, as_json)
             if not given.schema:
+                found += compare_reports(program, folder, wishes, json.loads(as_json.stdout))
                 found += compare_bundles(program, folder, wishes)
             wrong += [f"test {' '.join(wishes)}: {it}" for it in found]
+        if not given.schema:
+            wrong += compare_pipe(program, folder)
     print("\n".join(wrong + [f"results as JSON: {len(WISHES)} looked at, {len(wrong)} wrong"]))
     return 1 if wrong else 0
 

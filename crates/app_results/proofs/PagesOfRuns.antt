@@ -1,4 +1,4 @@
--- The page of a recorded run.
+-- What is made of a recorded run in a folder.
 use Rattle.std.proofs.Common.{◌≡◌, ℕ, suc, ◌+◌, ◌<◌, List, [], ◌∷◌, ◌++◌, length, map, take, inl, refl, sym, ap, subst, ◌∙◌, append-nil, arith, codes, Err, None, Ok, Some, Option, true, false}
 use Rattle.std.specs.Global.{Global}
 use Rattle.std.specs.Prelude.{get_or, IfOk, IfSome, Result, Vec}
@@ -11,20 +11,19 @@ use Rattle.def_format.specs.Documents.{Document, IsDocument, Options, inquiry_of
 use Rattle.def_format.specs.Names.{ProcessNames}
 use Rattle.def_format.specs.Reports.{Report}
 use Rattle.def_judgement.specs.Writes.{Source}
-use Rattle.app_arguments.specs.Statuses.{File, OfDocument, PageOptions, sources_of}
+use Rattle.app_arguments.specs.Statuses.{File, OfDocument, sources_of}
 use Rattle.app_host.specs.FileSources.{IsReadOf, Knows, SameOutline, bytes_in}
 use Rattle.app_host.proofs.DocumentPrefixes.{same_document}
 use Rattle.app_host.proofs.FilesRead.{of_document}
 use Rattle.app_test.specs.Tests.{file_in, stream_in, streams_in}
-use Rattle.judge_explore.specs.Explored.{IsPageOfInputs, Page}
+use Rattle.judge_explore.specs.Explored.{Form, IsPageOfInputs}
 use Rattle.judge_explore.specs.Sources.{AreFilesOf, StreamFile}
 use Rattle.judge_runs.specs.Views.{wish_view, wishes_view}
 use Rattle.judge_runs.specs.Wishes.{Condition}
 use Rattle.judge_runs.specs.declared.wish.Wish.{Wish}
 use Rattle.judge_session.specs.declared.fault.EngineFault.{EngineFault}
-use Rattle.out_page.specs.ExtraData.{Extras}
-use Rattle.app_explore.specs.Explorations.{AreExtras}
-use Rattle.app_results.specs.RunPages.{IsPageOfDocument, is_named, named_wishes}
+use Rattle.app_explore.specs.Explorations.{Asked, IsFormOf}
+use Rattle.app_results.specs.RunPages.{IsMadeOfDocument, is_named, named_wishes}
 use Rattle.app_explore.proofs.ExplorationEnds.{owed_of_files}
 
 -- ---- the wishes for predicates of a name
@@ -89,7 +88,7 @@ names_on folder names found end place process path so_far same count within is m
     ∙ ap (streams_in folder) (sym (take-suc names place (some_at names place lt) lt)
     ∙ ap (λ n. take n names) (let next : suc place ≡ place + 1 = omega arith in next))))
 
--- ---- the page
+-- ---- what is made of a run
 
 -- what is known of a source is so of itself
 some_itself : {A : Type 0} (o : Option A) → IfSome o (λ x. o ≡ Some x)
@@ -101,33 +100,33 @@ all_known [] = tt
 all_known (source ∷ sources) =
     (record { bytes = some_itself source.bytes; fails = some_itself source.fails }, all_known sources)
 
-module _ (files : List ℕ → File) (page : PageOptions) (folder : List ℕ) (options : Options) where
-  -- the page of a document that was read, and of its streams' readers, is that of their files
-  pub page_of_streams : (bytes : List ℕ) (document : Document) → IsDocument (inquiry_of options bytes) document
+module _ (files : List ℕ → File) (asked : Asked) (folder : List ℕ) (options : Options) where
+  -- what is made of a document that was read, and of its streams' readers, is that of their files
+  pub made_of_streams : (bytes : List ℕ) (document : Document) → IsDocument (inquiry_of options bytes) document
       → (names : List (List ℕ)) → names ≡ streams_in folder document.names → (lefts : List Source)
       → AllZip Knows (sources_of (map files (streams_in folder document.names))) lefts
-      → (extras : Extras) → AreExtras (bytes_in files) page extras → (used : List StreamFile)
+      → (form : Form) → IsFormOf (bytes_in files) asked form → (used : List StreamFile)
       → AreFilesOf (bytes_in files) names used → (report : Report) (text : List ℕ)
-      → IsPageOfInputs (inquiry_of options bytes) (Page extras) used lefts (λ other. other ≡ report) text
-      → IsPageOfDocument files page folder (inquiry_of options bytes) text
-  page_of_streams bytes document is names are_names lefts known extras beside used are_used report text owed = (
+      → IsPageOfInputs (inquiry_of options bytes) form used lefts (λ other. other ≡ report) text
+      → IsMadeOfDocument files asked folder (inquiry_of options bytes) text
+  made_of_streams bytes document is names are_names lefts known form is_form used are_used report text owed = (
     document,
     is,
     report,
     (
-      Page extras,
-      (extras, beside, refl),
+      form,
+      is_form,
       used,
       subst (λ (all : List (List ℕ)). AreFilesOf (bytes_in files) all used) are_names are_used,
       owed_of_files options bytes bytes (sources_of (map files (streams_in folder document.names))) lefts known refl
-          (Page extras) used (λ other. other ≡ report) text (inl owed),
+          form used (λ other. other ≡ report) text (inl owed),
     ),
   )
 
   -- it is that of all bytes of the document
   moved : (read bytes text : List ℕ) → SameOutline options read bytes
-      → IsPageOfDocument files page folder (inquiry_of options read) text
-      → IsPageOfDocument files page folder (inquiry_of options bytes) text
+      → IsMadeOfDocument files asked folder (inquiry_of options read) text
+      → IsMadeOfDocument files asked folder (inquiry_of options bytes) text
   moved read bytes text same found =
       let sources = sources_of (map files (streams_in folder found.0.names)) in
       let owed = found.3 in (
@@ -144,21 +143,21 @@ module _ (files : List ℕ → File) (page : PageOptions) (folder : List ℕ) (o
         ),
       )
 
-  pub page_of_read : (document : File) (read text : List ℕ) → IsReadOf read document.source
-      → IsPageOfDocument files page folder (inquiry_of options read) text
-      → OfDocument options document (λ inquiry. IsPageOfDocument files page folder inquiry text)
-  page_of_read document read text is found =
-      of_document options document read (IsPageOfDocument files page folder (inquiry_of options read) text)
-      (λ inquiry. IsPageOfDocument files page folder inquiry text) is
+  made_of_read : (document : File) (read text : List ℕ) → IsReadOf read document.source
+      → IsMadeOfDocument files asked folder (inquiry_of options read) text
+      → OfDocument options document (λ inquiry. IsMadeOfDocument files asked folder inquiry text)
+  made_of_read document read text is found =
+      of_document options document read (IsMadeOfDocument files asked folder (inquiry_of options read) text)
+      (λ inquiry. IsMadeOfDocument files asked folder inquiry text) is
       (λ bytes same found. moved read bytes text same found) found
 
 -- the same of results
-pub pages_of_read : (files : List ℕ → File) (page : PageOptions) (folder : List ℕ) (options : Options)
+pub texts_of_read : (files : List ℕ → File) (asked : Asked) (folder : List ℕ) (options : Options)
     (document : File) (read : List ℕ) → IsReadOf read document.source
     → (result : Result (Vec ℕ Global) EngineFault)
-    → IfOk result (λ text. IsPageOfDocument files page folder (inquiry_of options read) text.items)
+    → IfOk result (λ text. IsMadeOfDocument files asked folder (inquiry_of options read) text.items)
     → IfOk result (λ text. OfDocument options document
-    (λ inquiry. IsPageOfDocument files page folder inquiry text.items))
-pages_of_read files page folder options document read is (Ok text) found =
-    page_of_read files page folder options document read text.items is found
-pages_of_read files page folder options document read is (Err fault) found = tt
+    (λ inquiry. IsMadeOfDocument files asked folder inquiry text.items))
+texts_of_read files asked folder options document read is (Ok text) found =
+    made_of_read files asked folder options document read text.items is found
+texts_of_read files asked folder options document read is (Err fault) found = tt

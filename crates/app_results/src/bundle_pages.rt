@@ -1,12 +1,13 @@
-//! The page of a recorded run that is a bundle.
-ghost use Rattle.app_results.specs.RunPages.{IsPageOfFile};
-ghost use Rattle.judge_runs.specs.Views.{wishes_view};
+//! What is made of a recorded run that is a bundle: its page, or the object of its report.
+ghost use Rattle.app_explore.specs.Explorations.{Asked, IsFormOf};
+ghost use Rattle.app_host.specs.FileSources.{bytes_in};
+ghost use Rattle.app_results.specs.RunPages.{IsMadeOfFile};
+ghost use Rattle.judge_explore.specs.Forms.{form_view};
 ghost use Rattle.pd_spec.specs.Views.{options_view};
 ghost use Rattle.std.specs.Prelude.{IfOk};
 
-use super::run_page::page_options;
+use super::run_page::can_be_reread;
 use app_arguments::Test;
-use app_explore::extras_of;
 use app_host::{System, World, is_out_of_memory, open_noted};
 use judge_bundle_pages::{parts_page, read_parts};
 use judge_explore::Form;
@@ -31,22 +32,27 @@ fn has_wished<Y: System>(
     }
 }
 
-/// The page of the run that is the bundle in the file of this name, on which it is explored with what is asked and
-/// wished of it; the file is read once more.
+/// What is made in this form of the run that is the bundle in the file of this name, with what is asked of it; the file
+/// is read once more.
 ///
 /// # Errors
 /// `Read`, if the file can't be opened or read, or the bundle is too long, or its session is refused or lacks a
 /// predicate that is wished for, and `Memory`.
-pub(crate) fn bundle_page<Y: System, G: Gate + Sync>(
+pub(crate) fn bundle_text<Y: System, G: Gate + Sync>(
     world: &World<'_, Y>,
     name: &str,
     test: &Test<'_>,
+    form: Form<'_, '_>,
     gate: &G,
 ) -> Result<Vec<u8>, EngineFault>
-    ensures { IfOk result (λ text. IsPageOfFile (Y.Files.file_of world.now.files.now) (options_view test.now.options)
-        (wishes_view test.now.wishes.items) name.now text.items) }
+    ensures { (asked : Asked) → IsFormOf (bytes_in (Y.Files.file_of world.now.files.now)) asked (form_view form.entry)
+        → IfOk result (λ text. IsMadeOfFile (Y.Files.file_of world.now.files.now) (options_view test.now.options)
+        asked name.now text.items) }
 {
     let alloc = world.alloc;
+    if !can_be_reread(world, &[name]) {
+        return Err(EngineFault::Read);
+    }
     let file = open_noted(alloc, world.files, name, None)?;
     let Some(parts) = read_parts(alloc, file)? else {
         return Err(EngineFault::Read);
@@ -54,9 +60,6 @@ pub(crate) fn bundle_page<Y: System, G: Gate + Sync>(
     if !has_wished(world, &parts.document, test)? {
         return Err(EngineFault::Read);
     }
-    let wished = page_options(alloc, &test.wishes)?;
-    let extras = extras_of(world, &wished, 0)?;
-    let form = Form::Page(&extras);
     let workers = test.workers.count();
     parts_page(
         world.rt,

@@ -1,8 +1,7 @@
 //! Writes the results of recorded runs into files.
 ghost use Rattle.app_arguments.specs.Views.{names_view};
-ghost use Rattle.judge_results.specs.Results.{junit_text};
 ghost use Rattle.judge_runs.specs.Views.{wishes_view};
-ghost use Rattle.app_results.specs.ResultFiles.{IsJsonOfRuns, IsTextOfRuns};
+ghost use Rattle.app_results.specs.ResultFiles.{IsJsonOfRuns, IsJunitOfRuns};
 ghost use Rattle.pd_spec.specs.Views.{options_view};
 ghost use Rattle.std.specs.Prelude.{◌≡◌, is_some, true};
 
@@ -123,9 +122,8 @@ fn save_junit<Y: System>(
     files: &mut ResultFiles<'_>,
 )
     // This is the XML of the runs.
-    requires { IsTextOfRuns (Y.Files.file_of world.now.files.now) (options_view test.now.options)
-        (wishes_view test.now.wishes.items) (names_view test.now.runs.items)
-        (junit_text (wishes_view test.now.wishes.items)) text.now }
+    requires { IsJunitOfRuns (Y.Files.file_of world.now.files.now) (options_view test.now.options)
+        (wishes_view test.now.wishes.items) (names_view test.now.runs.items) text.now }
 {
     files.write(world.files, world.alloc, name, text);
 }
@@ -140,9 +138,9 @@ pub(crate) fn save_results<Y: System>(
     requires json { is_some test.now.json ≡ true → IsJsonOfRuns (Y.Files.file_of world.now.files.now)
         (options_view test.now.options) (wishes_view test.now.wishes.items) (names_view test.now.runs.items)
         texts.now.json.items }
-    requires junit { is_some test.now.junit ≡ true → IsTextOfRuns (Y.Files.file_of world.now.files.now)
+    requires junit { is_some test.now.junit ≡ true → IsJunitOfRuns (Y.Files.file_of world.now.files.now)
         (options_view test.now.options) (wishes_view test.now.wishes.items) (names_view test.now.runs.items)
-        (junit_text (wishes_view test.now.wishes.items)) texts.now.junit.items }
+        texts.now.junit.items }
 {
     if let Some(name) = test.json {
         save_json(world, test, name, &texts.json, files);

@@ -1,11 +1,13 @@
-//! Tests recorded runs, and writes the pages of those that fail and the files of results.
+//! Tests recorded runs, and writes the pages of those that fail and the files of results, with their reports.
 ghost use Rattle.app_arguments.specs.Views.{format_view, names_view};
+ghost use Rattle.app_results.specs.RunReports.{IsReportOf};
 ghost use Rattle.app_test.specs.Tests.{TestLeaves, test_ending};
 ghost use Rattle.judge_runs.specs.Views.{wishes_view};
 ghost use Rattle.pd_spec.specs.Views.{options_view};
 ghost use Rattle.std.specs.Prelude.{◌≡◌, ◌++◌, ◌+◌, ◌<◌, ◌≤◌, drop, length};
 
 use super::pages::{Pages, add_pages};
+use super::reports::add_reports;
 use super::result_files::{ResultFiles, save_results};
 use app_arguments::Test;
 use app_host::{System, World};
@@ -41,14 +43,16 @@ fn test_all<'a, Y: System, G: Gate + Sync, O: Write>(
     output: &mut O,
 ) -> Result<Conclusion, EngineFault>
     ensures { TestLeaves (Y.Files.file_of world.now.files.now) (options_view test.now.options)
-        (wishes_view test.now.wishes.items) (format_view test.now.format) (names_view test.now.runs.items)
-        (test_ending result) (O.contents output.old) (O.contents output.new) }
+        (wishes_view test.now.wishes.items) (format_view test.now.format)
+        (IsReportOf (Y.Files.file_of world.now.files.now) (options_view test.now.options))
+        (names_view test.now.runs.items) (test_ending result) (O.contents output.old) (O.contents output.new) }
 {
     let mut tested = Tested::new(world.alloc, test);
     let mut from = 0;
     while from < test.runs.len() {
         let runs = runs_from(&test.runs, from, test.jobs.count());
         let failing = test_some(world, test, runs, gate, &mut tested, output)?;
+        add_reports(world, &failing, test, gate, &mut tested.records.results)?;
         add_pages(world, &failing, test, gate, pages)?;
         from += runs.len();
     }
@@ -85,7 +89,9 @@ fn are_whole(pages: &Pages<'_>, files: &ResultFiles<'_>) -> bool {
 /// Tests these recorded runs, in their order, some side by side: writes the line of each as soon as those are judged,
 /// and the pages of those that fail, if they are wanted; then the files of results that are wanted; then the numbers of
 /// all runs, the first lines of those that don't pass, and how many orders the runs have. As JSON it writes one object
-/// at the end, and no lines. The output is flushed after each line and at the end. It gives what the runs come to.
+/// at the end, and no lines. If a JSON text is wanted, it has the report of each run that fails, as `judge` writes it,
+/// for which the files of the run are read once more; or null, if they can't be. The output is flushed after each line
+/// and at the end. It gives what the runs come to.
 ///
 /// # Errors
 /// `Memory` leaves the lines of the first runs written. `Write` leaves a part of the text written, or all of it if only
@@ -100,8 +106,9 @@ pub fn test_files<'a, Y: System, G: Gate + Sync, O: Write>(
     output: &mut O,
 ) -> Result<Conclusion, EngineFault>
     ensures { TestLeaves (Y.Files.file_of world.now.files.now) (options_view test.now.options)
-        (wishes_view test.now.wishes.items) (format_view test.now.format) (names_view test.now.runs.items)
-        (test_ending result) (O.contents output.old) (O.contents output.new) }
+        (wishes_view test.now.wishes.items) (format_view test.now.format)
+        (IsReportOf (Y.Files.file_of world.now.files.now) (options_view test.now.options))
+        (names_view test.now.runs.items) (test_ending result) (O.contents output.old) (O.contents output.new) }
 {
     if !are_ready(world, pages, files) {
         return Err(EngineFault::Write);

@@ -14,7 +14,8 @@ use Rattle.judge_session.specs.declared.fault.EngineFault.{EngineFault}
 use Rattle.app_test.specs.Jobs.{run_of, runs_of}
 use Rattle.app_arguments.specs.Formats.{Format, Plain, Json}
 use Rattle.app_test.specs.declared.records.Records.{Records}
-use Rattle.app_test.specs.TestedRuns.{AreRecords, LeavesRuns, WritesResult, WritesRuns, failing_in, fails_run, lines_in}
+use Rattle.app_test.specs.TestedRuns.{AreRecords, LeavesRuns, WritesResult, WritesRuns, lines_in}
+use Rattle.app_test.specs.Tests.{failing_in, fails_run}
 
 -- ---- prefixes
 
@@ -30,7 +31,7 @@ first_part xs ys =
     take-append-le (length xs) xs ys (omega arith) ∙ take_all (length xs) xs (omega arith)
 
 -- a prefix of a text is one of what goes on with it
-prefix_on : (xs ys : List ℕ) (k : ℕ) → take (min k (length xs)) (xs ++ ys) ≡ take k xs
+pub prefix_on : (xs ys : List ℕ) (k : ℕ) → take (min k (length xs)) (xs ++ ys) ≡ take k xs
 prefix_on xs ys k = take-append-le (min k (length xs)) xs ys (omega arith) ∙ take_min k xs
 
 -- ---- whether a run fails
@@ -51,7 +52,7 @@ pub fails_alone : (wishes : List Condition) (run : Run) (end : Conclusion) → e
 fails_alone wishes run end is = ap is_failure is ∙ sym (one_fails (verdict_of_run wishes run))
 
 -- the folders of those that fail of runs and of more of them
-failing_on : (wishes : List Condition) (runs more : List Run)
+pub failing_on : (wishes : List Condition) (runs more : List Run)
     → failing_in wishes (runs ++ more) ≡ failing_in wishes runs ++ failing_in wishes more
 failing_on wishes runs more =
     ap (map (λ (run : Run). run.folder)) (filter-append (fails_run wishes) runs more)
@@ -72,8 +73,8 @@ module _ (format : Format) (wishes : List Condition) (is_wanted : Bool) where
   pub none_written : (records : Records) (failing : List (List ℕ)) (old : Option (List ℕ))
       → WritesRuns format wishes is_wanted [] records records failing failing old old
   none_written records failing old = record {
-    stands = λ wanted earlier stands.
-        subst (λ (all : List Run). AreRecords wanted wishes all records) (sym (append-nil earlier)) stands;
+    stands = λ wanted earlier reports stands.
+        subst (λ (all : List Run). AreRecords wanted wishes all reports records) (sym (append-nil earlier)) stands;
     written = none format;
     failing = λ _. sym (append-nil failing);
   }
@@ -87,9 +88,9 @@ module _ (format : Format) (wishes : List Condition) (is_wanted : Bool) where
       → WritesRuns format wishes is_wanted more middle last between after mid new
       → WritesRuns format wishes is_wanted (runs ++ more) first last before after old new
   more_written runs more first middle last before between after old mid new some others = record {
-    stands = λ wanted earlier stands.
-        subst (λ (all : List Run). AreRecords wanted wishes all last) (append_assoc earlier runs more)
-        (others.stands wanted (earlier ++ runs) (some.stands wanted earlier stands));
+    stands = λ wanted earlier reports stands.
+        subst (λ (all : List Run). AreRecords wanted wishes all reports last) (append_assoc earlier runs more)
+        (others.stands wanted (earlier ++ runs) reports (some.stands wanted earlier reports stands));
     written = subst (λ (text : List ℕ). Appends old new text) (sym (lines_on format wishes runs more))
         (Appends-trans old mid new (lines_in format wishes runs) (lines_in format wishes more) some.written
         others.written);
@@ -100,18 +101,18 @@ module _ (format : Format) (wishes : List Condition) (is_wanted : Bool) where
         ∙ ap (λ (all : List (List ℕ)). before ++ all) (sym (failing_on wishes runs more))));
   }
 
-  -- what is due of runs is written, and a prefix of what is due of more runs
-  pub cut_after : (runs more : List Run) (first middle : Records) (before between : List (List ℕ))
-      (old mid new : Option (List ℕ)) → WritesRuns format wishes is_wanted runs first middle before between old mid
-      → LeavesRuns format wishes more mid new → LeavesRuns format wishes (runs ++ more) old new
-  cut_after runs more first middle before between old mid new some cut = (
-    length (lines_in format wishes runs) + cut.0,
-    subst (λ (text : List ℕ). Appends old new text)
-        (sym (ap (take (length (lines_in format wishes runs) + cut.0)) (lines_on format wishes runs more)
-        ∙ after_part (lines_in format wishes runs) (lines_in format wishes more) cut.0))
-        (Appends-trans old mid new (lines_in format wishes runs) (take cut.0 (lines_in format wishes more))
-        some.written cut.1),
-  )
+-- what is due of runs is written, and a prefix of what is due of more runs
+pub cut_after : (format : Format) (wishes : List Condition) (runs more : List Run) (old mid new : Option (List ℕ))
+    → Appends old mid (lines_in format wishes runs) → LeavesRuns format wishes more mid new
+    → LeavesRuns format wishes (runs ++ more) old new
+cut_after format wishes runs more old mid new written cut = (
+  length (lines_in format wishes runs) + cut.0,
+  subst (λ (text : List ℕ). Appends old new text)
+      (sym (ap (take (length (lines_in format wishes runs) + cut.0)) (lines_on format wishes runs more)
+      ∙ after_part (lines_in format wishes runs) (lines_in format wishes more) cut.0))
+      (Appends-trans old mid new (lines_in format wishes runs) (take cut.0 (lines_in format wishes more)) written
+      cut.1),
+)
 
 -- a prefix of what is due of runs is one of what is due of more
 pub cut_before : (format : Format) (wishes : List Condition) (runs more : List Run) (old new : Option (List ℕ))
@@ -245,8 +246,7 @@ module _ (format : Format) (wishes : List Condition) (is_wanted : Bool) (folders
         (sym (some.go_on ∙ (ap (λ (rest : List Run). some.runs ++ rest) (from_here ∙ more.1)
         ∙ sym (append_assoc some.runs (runs_of (folder ∷ []) (result ∷ [])) more.0))))
         (cut_before format wishes (some.runs ++ runs_of (folder ∷ []) (result ∷ [])) more.0 old new
-        (cut_after format wishes is_wanted some.runs (runs_of (folder ∷ []) (result ∷ [])) first middle [] before old
-        mid new some.writes cut))
+        (cut_after format wishes some.runs (runs_of (folder ∷ []) (result ∷ [])) old mid new some.writes.written cut))
 
   -- nothing is left
   all_there : (count : ℕ) → length folders ≤ count → (first last : Records) (failing : List (List ℕ))

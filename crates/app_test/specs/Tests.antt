@@ -1,5 +1,5 @@
 -- What a test of recorded runs leaves on its output, by the files in their folders, and those that are bundles.
-use Rattle.std.specs.Prelude.{◌≡◌, ◌≢◌, ◌⊎◌, ⊤, ℕ, Bool, true, false, List, [], ◌∷◌, ◌++◌, codes, decimal, map, take, Option, Some, None, Result, Ok, Err}
+use Rattle.std.specs.Prelude.{◌≡◌, ◌≢◌, ◌⊎◌, ⊤, ℕ, Bool, true, false, List, [], ◌∷◌, ◌++◌, codes, decimal, filter, map, take, Option, Some, None, Result, Ok, Err}
 use Rattle.std.specs.List.{AllZip, slice_get}
 use Rattle.def_format.specs.Documents.{Document, DocumentFault, Inquiry, IsDocument, IsRefusedDocument, Options}
 use Rattle.def_format.specs.Names.{ProcessNames}
@@ -9,7 +9,7 @@ use Rattle.app_arguments.specs.Formats.{Format, Plain, Json}
 use Rattle.app_arguments.specs.Statuses.{Alarm, Ending, Failed, File, MayBeUnread, MemoryFailure, Negative, OfDocument, Success, WriteFailure, WritesUpTo, sources_of}
 use Rattle.judge_bundles.specs.BundleRuns.{IsBundleName, IsOutcomeOfBundle}
 use Rattle.judge_results.specs.Results.{results_json}
-use Rattle.judge_runs.specs.Runs.{AllPass, Conclusion, Outcome, Reported, Run, SomeFails, SomeNotJudged, Unnamed, Unread, conclusion, test_text}
+use Rattle.judge_runs.specs.Runs.{AllPass, Conclusion, Fail, Outcome, Reported, Run, SomeFails, SomeNotJudged, Unnamed, Unread, conclusion, is_same, test_text, verdict_of_run}
 use Rattle.judge_runs.specs.Views.{conclusion_view}
 use Rattle.def_judgement.specs.Findings.{names_asked}
 use Rattle.judge_runs.specs.Wishes.{Condition, first_unnamed}
@@ -17,6 +17,7 @@ use Rattle.judge_runs.specs.declared.conclusion.Conclusion as conclusions
 use Rattle.judge_shared.specs.SharedReports.{IsRunReportOfInputs}
 use Rattle.judge_session.specs.declared.fault.EngineFault.{EngineFault}
 use Rattle.app_host.specs.Faults.{failure_view}
+use Rattle.serde_json.specs.Data.{Data}
 
 -- ---- the files of a run in a folder
 
@@ -82,38 +83,53 @@ abbrev pub orders_text : Option ℕ → List ℕ
 orders_text None = []
 orders_text (Some orders) = codes "orders: " ++ decimal orders ++ codes "\n"
 
--- the text of a test of these runs, with this number of orders, in this format
-abbrev pub text_in : Format → List Condition → List Run → (orders : Option ℕ) → List ℕ
-text_in Plain wishes runs orders = test_text wishes runs ++ orders_text orders
-text_in Json wishes runs orders = results_json wishes runs orders
+abbrev pub fails_run : List Condition → Run → Bool
+fails_run wishes run = is_same Fail (verdict_of_run wishes run)
 
--- The text of a test of the runs in these folders, in this format. Of the runs this is said; how many orders they have
--- is what was counted, of which nothing more is said.
+-- the folders of those of these runs that fail
+abbrev pub failing_in : List Condition → List Run → List (List ℕ)
+failing_in wishes runs = map (λ (run : Run). run.folder) (filter (fails_run wishes) runs)
+
+-- The text is that of a test of these runs, with this number of orders, in this format. The JSON object has a report of
+-- each run that fails, in their order, of which this is said with the run's name.
+abbrev pub IsTextOf : Format → (IsReport : (name : List ℕ) → Data → Type 0) → List Condition → List Run
+    → (orders : Option ℕ) → (text : List ℕ) → Type 0
+IsTextOf Plain IsReport wishes runs orders text = text ≡ test_text wishes runs ++ orders_text orders
+IsTextOf Json IsReport wishes runs orders text =
+    (reports : List Data) × AllZip IsReport (failing_in wishes runs) reports
+    × (text ≡ results_json wishes runs reports orders)
+
+-- The text of a test of the runs in these folders, in this format. Of the runs and of each report this is said; how
+-- many orders they have is what was counted, of which nothing more is said.
 pub record IsTestText (files : List ℕ → File) (options : Options) (wishes : List Condition) (format : Format)
-    (IsSaid : List Run → Type 0) (folders : List (List ℕ)) (text : List ℕ) : Type 0 where
+    (IsReport : (name : List ℕ) → Data → Type 0) (IsSaid : List Run → Type 0) (folders : List (List ℕ))
+    (text : List ℕ) : Type 0 where
   pub runs : List Run
   pub are_runs : AllZip (λ folder (run : Run). (run.folder ≡ folder)
       × IsOutcome files options wishes folder run.outcome) folders runs
   pub said : IsSaid runs
   pub orders : Option ℕ
-  pub is_text : text ≡ text_in format wishes runs orders
+  pub is_text : IsTextOf format IsReport wishes runs orders text
 
 -- What a test leaves. All runs pass, or one fails, or one isn't judged: the text of the test of all runs. The output
 -- fails, or memory runs out: the text of a test of the first of them, or a prefix of it.
 abbrev pub TestLeaves : (files : List ℕ → File) (options : Options) (wishes : List Condition) (format : Format)
-    (folders : List (List ℕ)) → Ending → (old new : Option (List ℕ)) → Type 0
-TestLeaves files options wishes format folders Success old new =
-    Writes (IsTestText files options wishes format (λ runs. conclusion wishes runs ≡ AllPass) folders) Whole old new
-TestLeaves files options wishes format folders Alarm old new =
-    Writes (IsTestText files options wishes format (λ runs. conclusion wishes runs ≡ SomeFails) folders) Whole old new
-TestLeaves files options wishes format folders Negative old new =
-    Writes (IsTestText files options wishes format (λ runs. conclusion wishes runs ≡ SomeNotJudged) folders)
+    (IsReport : (name : List ℕ) → Data → Type 0) (folders : List (List ℕ)) → Ending → (old new : Option (List ℕ))
+    → Type 0
+TestLeaves files options wishes format IsReport folders Success old new =
+    Writes (IsTestText files options wishes format IsReport (λ runs. conclusion wishes runs ≡ AllPass) folders)
     Whole old new
-TestLeaves files options wishes format folders (Failed WriteFailure) old new =
-    (count : ℕ) × WritesUpTo (IsTestText files options wishes format (λ _. ⊤) (take count folders)) old new
-TestLeaves files options wishes format folders (Failed MemoryFailure) old new =
-    (count : ℕ) × WritesUpTo (IsTestText files options wishes format (λ _. ⊤) (take count folders)) old new
-TestLeaves files options wishes format folders _ old new = ⊥
+TestLeaves files options wishes format IsReport folders Alarm old new =
+    Writes (IsTestText files options wishes format IsReport (λ runs. conclusion wishes runs ≡ SomeFails) folders)
+    Whole old new
+TestLeaves files options wishes format IsReport folders Negative old new =
+    Writes (IsTestText files options wishes format IsReport (λ runs. conclusion wishes runs ≡ SomeNotJudged) folders)
+    Whole old new
+TestLeaves files options wishes format IsReport folders (Failed WriteFailure) old new =
+    (count : ℕ) × WritesUpTo (IsTestText files options wishes format IsReport (λ _. ⊤) (take count folders)) old new
+TestLeaves files options wishes format IsReport folders (Failed MemoryFailure) old new =
+    (count : ℕ) × WritesUpTo (IsTestText files options wishes format IsReport (λ _. ⊤) (take count folders)) old new
+TestLeaves files options wishes format IsReport folders _ old new = ⊥
 
 -- ---- names for parts of this, by which contracts speak of them
 

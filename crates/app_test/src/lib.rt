@@ -8,6 +8,9 @@
 //! as soon as all of them are judged. A run isn't judged if one before those had its order and no unknown answer: it
 //! has these answers. Memory holds the runs that are judged side by side, and the orders of those before.
 //!
+//! The JSON text has a report of each run that fails. What makes these reports adds them to the records; of each this
+//! crate knows what the caller says of it.
+//!
 //! What a test leaves on its output stands in `specs/Tests.antt`. The three files of definitions beside it are for the
 //! functions within: `ReadRuns` says why the streams of a run aren't open, `Jobs` what comes of runs whose files are
 //! open, and `TestedRuns` what is written of the runs so far.
@@ -38,7 +41,7 @@ mod tests;
 mod unopened;
 
 pub use ends::report_test;
-pub use records::{Records, Tested};
+pub use records::{Records, Tested, wanted_by};
 pub use run_document::read_run_document;
 pub use run_files::{document_in, stream_in};
 pub use run_streams::open_streams;

@@ -1,6 +1,6 @@
 //! What is known of the runs so far.
 ghost use Rattle.app_arguments.specs.Views.{format_view};
-ghost use Rattle.app_test.specs.TestedRuns.{wanted_by};
+ghost use Rattle.app_test.specs.TestedRuns.{lists_failing, wanted_by};
 ghost use Rattle.app_test.specs.Tests.{is_json};
 ghost use Rattle.std.specs.Prelude.{◌≡◌};
 
@@ -21,13 +21,20 @@ fn is_json(format: Format) -> bool
 }
 
 /// Which texts of the results a test has to have: the JSON text for its file or the output, the XML for its file.
-fn wanted_by(test: &Test<'_>) -> Wanted
+pub fn wanted_by(test: &Test<'_>) -> Wanted
     ensures { result ≡ wanted_by test.now }
 {
     Wanted {
         json: test.json.is_some() || is_json(test.format),
         junit: test.junit.is_some(),
     }
+}
+
+/// Whether a test lists the folders of runs that fail: pages are made of them, or the reports of a JSON text.
+pub(crate) fn lists_failing(test: &Test<'_>) -> bool
+    ensures { result ≡ lists_failing test.now }
+{
+    test.pages.is_some() || wanted_by(test).json
 }
 
 /// What is kept of the runs so far: their verdicts, and the results that are wanted.
@@ -46,7 +53,7 @@ impl Records {
 
     /// Of no run, for this test.
     pub(crate) fn new(alloc: Global, test: &Test<'_>) -> Records
-        ensures { (wishes : List Condition) → AreRecords (wanted_by test.now) wishes [] result }
+        ensures { (wishes : List Condition) → AreRecords (wanted_by test.now) wishes [] [] result }
     {
         Records {
             tally: Tally::new(alloc),
@@ -73,7 +80,7 @@ impl Tested {
 
     /// Of no run, for this test.
     pub fn new(alloc: Global, test: &Test<'_>) -> Tested
-        ensures records { (wishes : List Condition) → AreRecords (wanted_by test.now) wishes [] result.records }
+        ensures records { (wishes : List Condition) → AreRecords (wanted_by test.now) wishes [] [] result.records }
         ensures orders { (options : Options) → AreSound options result.orders }
     {
         Tested {

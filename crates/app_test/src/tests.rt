@@ -2,21 +2,22 @@
 ghost use Rattle.app_arguments.specs.Formats.{Json};
 ghost use Rattle.app_arguments.specs.Views.{format_view, names_view};
 ghost use Rattle.app_test.specs.Jobs.{run_of, runs_of};
-ghost use Rattle.app_test.specs.TestedRuns.{EndsTest, IsConcluded, LeavesMore, LeavesRuns, TestsMore, WritesResult, WritesRuns, end_in, failing_in, fails_run, lines_in};
+ghost use Rattle.app_test.specs.TestedRuns.{EndsTest, IsConcluded, LeavesMore, LeavesRuns, TestsMore, WritesResult, WritesRuns, end_in, lines_in, lists_failing};
 ghost use Rattle.judge_results.specs.Results.{results_json};
 ghost use Rattle.judge_runs.specs.Runs.{Run, line_of};
 ghost use Rattle.judge_runs.specs.Tallies.{Stands, summary_text};
 ghost use Rattle.judge_shared.specs.Sharing.{AreSound};
-ghost use Rattle.app_test.specs.Tests.{IsRunIn, orders_text};
+ghost use Rattle.serde_json.specs.Data.{Data};
+ghost use Rattle.app_test.specs.Tests.{IsRunIn, failing_in, fails_run, orders_text};
 ghost use Rattle.std.specs.List.{AllZip};
 ghost use Rattle.judge_runs.specs.Views.{wishes_view};
 ghost use Rattle.judge_runs.specs.Wishes as wished;
 ghost use Rattle.pd_spec.specs.Views.{options_view};
 ghost use Rattle.std.specs.Io.KnownBytes.{Appends};
-ghost use Rattle.std.specs.Prelude.{◌≡◌, ◌++◌, ◌∷◌, [], IfErr, IfOk, IsOkUnless, List, OnErr, OnOk, is_some, length, take, true, ℕ};
+ghost use Rattle.std.specs.Prelude.{◌≡◌, ◌++◌, ◌∷◌, [], IfErr, IfOk, IsOkUnless, List, OnErr, OnOk, length, take, true, ℕ};
 
 use super::jobs::trials_of_jobs;
-use super::records::{Records, Tested};
+use super::records::{Records, Tested, lists_failing};
 use super::run::jobs_of;
 use app_arguments::{Format, Test};
 use app_host::{System, World, write_flushed};
@@ -56,11 +57,11 @@ struct Asked<'a, 'w> {
     wishes: &'a [Wish<'w>],
     /// The format of what is written.
     format: Format,
-    /// Whether pages of those that fail are wanted.
-    has_pages: bool,
+    /// Whether the folders of those that fail are listed.
+    lists_failing: bool,
 }
 
-/// Adds the folder of a run of which this comes, if pages are wanted and the run fails.
+/// Adds the folder of a run of which this comes, if such are listed and the run fails.
 ///
 /// # Errors
 /// An allocation was refused.
@@ -71,10 +72,10 @@ fn note_failing<'f>(
     outcome: &Outcome,
     failing: &mut Vec<&'f str>,
 ) -> Result<(), AllocError>
-    ensures { OnOk result (asked.now.has_pages ≡ true → names_view failing.new.items ≡ names_view failing.old.items
+    ensures { OnOk result (asked.now.lists_failing ≡ true → names_view failing.new.items ≡ names_view failing.old.items
         ++ failing_in (wishes_view asked.now.wishes.now) (run_of folder.now outcome.now ∷ [])) }
 {
-    if asked.has_pages && is_failing(alloc, asked.wishes, folder, outcome)? {
+    if asked.lists_failing && is_failing(alloc, asked.wishes, folder, outcome)? {
         failing.push(folder)?;
     }
     Ok(())
@@ -126,7 +127,7 @@ fn write_run<O: Write>(
 }
 
 /// Writes the line of the run in this folder, of which this comes, if lines are written, flushes the output, and adds
-/// the run to the records, and the folder, if pages are wanted and the run fails.
+/// the run to the records, and the folder, if such are listed and the run fails.
 ///
 /// # Errors
 /// `Memory` leaves the line written or nothing of it. `Write` leaves a prefix of the line written, or all of it if only
@@ -141,7 +142,7 @@ fn put_known<'f, O: Write>(
     output: &mut O,
 ) -> Result<(), EngineFault>
     ensures written { OnOk result (WritesRuns (format_view asked.now.format) (wishes_view asked.now.wishes.now)
-        asked.now.has_pages (run_of folder.now outcome.now ∷ []) records.old records.new
+        asked.now.lists_failing (run_of folder.now outcome.now ∷ []) records.old records.new
         (names_view failing.old.items) (names_view failing.new.items) (O.contents output.old)
         (O.contents output.new)) }
     ensures left { OnErr result (LeavesRuns (format_view asked.now.format) (wishes_view asked.now.wishes.now)
@@ -168,7 +169,7 @@ fn put_run<'f, O: Write>(
     output: &mut O,
 ) -> Result<(), EngineFault>
     ensures written { OnOk result (WritesResult (format_view asked.now.format) (wishes_view asked.now.wishes.now)
-        asked.now.has_pages folder.now found.now records.old records.new (names_view failing.old.items)
+        asked.now.lists_failing folder.now found.now records.old records.new (names_view failing.old.items)
         (names_view failing.new.items) (O.contents output.old) (O.contents output.new)) }
     ensures left { OnErr result (LeavesRuns (format_view asked.now.format) (wishes_view asked.now.wishes.now)
         (runs_of (folder.now ∷ []) (found.now ∷ [])) (O.contents output.old) (O.contents output.new)) }
@@ -181,8 +182,8 @@ fn put_run<'f, O: Write>(
 }
 
 /// Writes the lines of the runs in these folders, of which this comes, in their order, if lines are written, flushes
-/// the output after each, and adds the runs to the records. It gives the folders of those that fail, if pages are
-/// wanted.
+/// the output after each, and adds the runs to the records. It gives the folders of those that fail, if such are
+/// listed.
 ///
 /// # Errors
 /// `Memory` leaves the lines of the runs before written. `Write` leaves a prefix of the lines written, or all of them
@@ -198,7 +199,7 @@ fn put_runs<'f, O: Write>(
     requires { length found.now ≡ length folders.now }
     ensures whole { IfOk result (λ _. length (runs_of (names_view folders.now) found.now) ≡ length folders.now) }
     ensures written { IfOk result (λ failing. WritesRuns (format_view asked.now.format)
-        (wishes_view asked.now.wishes.now) asked.now.has_pages (runs_of (names_view folders.now) found.now)
+        (wishes_view asked.now.wishes.now) asked.now.lists_failing (runs_of (names_view folders.now) found.now)
         records.old records.new [] (names_view failing.items) (O.contents output.old) (O.contents output.new)) }
     ensures left { OnErr result (LeavesRuns (format_view asked.now.format) (wishes_view asked.now.wishes.now)
         (runs_of (names_view folders.now) found.now) (O.contents output.old) (O.contents output.new)) }
@@ -251,8 +252,8 @@ fn outcomes_of<Y: System, G: Gate + Sync>(
 
 /// Tests the runs in these folders side by side: opens their files, judges each in a thread of its own, unless the
 /// answers of its order are known, writes their lines in the order of the folders, if lines are written, flushes the
-/// output after each, and adds the runs to what is known. It gives the folders of the runs that fail, if pages are
-/// wanted. The workers, which share the work on one run, and the gate change how long it takes, and nothing else.
+/// output after each, and adds the runs to what is known. It gives the folders of the runs that fail, if such are
+/// listed. The workers, which share the work on one run, and the gate change how long it takes, and nothing else.
 ///
 /// # Errors
 /// `Memory` leaves the lines of the first runs written, or none. `Write` leaves a prefix of the lines written, or all
@@ -269,8 +270,8 @@ fn test_asked<'f, Y: System, G: Gate + Sync, O: Write>(
     requires { AreSound (options_view test.now.options) tested.old.orders }
     ensures tested { IfOk result (λ failing. TestsMore (Y.Files.file_of world.now.files.now)
         (options_view test.now.options) (wishes_view asked.now.wishes.now) (format_view asked.now.format)
-        asked.now.has_pages (names_view folders.now) tested.old.records tested.new.records (names_view failing.items)
-        (O.contents output.old) (O.contents output.new)) }
+        asked.now.lists_failing (names_view folders.now) tested.old.records tested.new.records
+        (names_view failing.items) (O.contents output.old) (O.contents output.new)) }
     ensures sound { IfOk result (λ _. AreSound (options_view test.now.options) tested.new.orders) }
     ensures left { OnErr result (LeavesMore (Y.Files.file_of world.now.files.now) (options_view test.now.options)
         (wishes_view asked.now.wishes.now) (format_view asked.now.format) (names_view folders.now)
@@ -288,7 +289,8 @@ fn test_asked<'f, Y: System, G: Gate + Sync, O: Write>(
     )
 }
 
-/// Tests the runs in these folders side by side, as `test_asked`.
+/// Tests the runs in these folders side by side, as `test_asked`. The folders of those that fail are listed if pages or
+/// a JSON text are wanted.
 ///
 /// # Errors
 /// As `test_asked`.
@@ -303,7 +305,7 @@ pub fn test_some<'f, Y: System, G: Gate + Sync, O: Write>(
     requires { AreSound (options_view test.now.options) tested.old.orders }
     ensures tested { IfOk result (λ failing. TestsMore (Y.Files.file_of world.now.files.now)
         (options_view test.now.options) (wishes_view test.now.wishes.items) (format_view test.now.format)
-        (is_some test.now.pages) (names_view folders.now) tested.old.records tested.new.records
+        (lists_failing test.now) (names_view folders.now) tested.old.records tested.new.records
         (names_view failing.items) (O.contents output.old) (O.contents output.new)) }
     ensures sound { IfOk result (λ _. AreSound (options_view test.now.options) tested.new.orders) }
     ensures left { OnErr result (LeavesMore (Y.Files.file_of world.now.files.now) (options_view test.now.options)
@@ -314,7 +316,7 @@ pub fn test_some<'f, Y: System, G: Gate + Sync, O: Write>(
     let asked = Asked {
         wishes: &test.wishes,
         format: test.format,
-        has_pages: test.pages.is_some(),
+        lists_failing: lists_failing(test),
     };
     test_asked(world, test, &asked, folders, gate, tested, output)
 }
@@ -362,14 +364,16 @@ fn write_end<O: Write>(
     orders: Option<u64>,
     output: &mut O,
 ) -> Result<(), EngineFault>
-    ensures written { (wishes : List wished.Condition) (runs : List Run) → Stands wishes runs tally.now
-        → (format_view format ≡ Json → json.now ≡ results_json wishes runs orders)
+    ensures written { (wishes : List wished.Condition) (runs : List Run) (reports : List Data)
+        → Stands wishes runs tally.now
+        → (format_view format ≡ Json → json.now ≡ results_json wishes runs reports orders)
         → OnOk result (Appends (O.contents output.old) (O.contents output.new)
-        (end_in (format_view format) wishes runs orders)) }
-    ensures left { (wishes : List wished.Condition) (runs : List Run) → Stands wishes runs tally.now
-        → (format_view format ≡ Json → json.now ≡ results_json wishes runs orders)
+        (end_in (format_view format) wishes runs reports orders)) }
+    ensures left { (wishes : List wished.Condition) (runs : List Run) (reports : List Data)
+        → Stands wishes runs tally.now
+        → (format_view format ≡ Json → json.now ≡ results_json wishes runs reports orders)
         → OnErr result ((count : ℕ) × Appends (O.contents output.old) (O.contents output.new)
-        (take count (end_in (format_view format) wishes runs orders))) }
+        (take count (end_in (format_view format) wishes runs reports orders))) }
     ensures err { IfErr result EndsTest }
 {
     match format {
@@ -394,9 +398,11 @@ pub fn conclude<O: Write>(
     orders: Option<u64>,
     output: &mut O,
 ) -> Result<Conclusion, EngineFault>
-    ensures end { (wishes : List wished.Condition) (runs : List Run) → Stands wishes runs tally.now
-        → (format_view format ≡ Json → json.now ≡ results_json wishes runs orders)
-        → IsConcluded (format_view format) wishes runs orders result (O.contents output.old) (O.contents output.new) }
+    ensures end { (wishes : List wished.Condition) (runs : List Run) (reports : List Data)
+        → Stands wishes runs tally.now
+        → (format_view format ≡ Json → json.now ≡ results_json wishes runs reports orders)
+        → IsConcluded (format_view format) wishes runs reports orders result (O.contents output.old)
+        (O.contents output.new) }
     ensures err { IfErr result EndsTest }
 {
     write_end(alloc, tally, format, json, orders, output)?;

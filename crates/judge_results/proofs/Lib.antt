@@ -1,4 +1,5 @@
 -- The modules of lemmas of this crate.
+mod Joined
 mod Parts
 mod RunsAdded
 pub mod Whole

@@ -12,6 +12,13 @@ five_parts o p q r s t a b c d e first second third fourth fifth =
     ∙ ap (λ out. out ++ e) (fourth ∙ ap (λ out. out ++ d) (three_parts o p q r a b c first second third))
     ∙ simp append_assoc
 
+pub six_parts : (o p q r s t u a b c d e f : List ℕ) → p ≡ o ++ a → q ≡ p ++ b → r ≡ q ++ c → s ≡ r ++ d → t ≡ s ++ e
+    → u ≡ t ++ f → u ≡ o ++ (a ++ b ++ c ++ d ++ e ++ f)
+six_parts o p q r s t u a b c d e f first second third fourth fifth sixth =
+    sixth
+    ∙ ap (λ out. out ++ f) (five_parts o p q r s t a b c d e first second third fourth fifth)
+    ∙ simp append_assoc
+
 pub seven_parts : (o p q r s t u v a b c d e f g : List ℕ) → p ≡ o ++ a → q ≡ p ++ b → r ≡ q ++ c → s ≡ r ++ d
     → t ≡ s ++ e → u ≡ t ++ f → v ≡ u ++ g → v ≡ o ++ (a ++ b ++ c ++ d ++ e ++ f ++ g)
 seven_parts o p q r s t u v a b c d e f g first second third fourth fifth sixth seventh =

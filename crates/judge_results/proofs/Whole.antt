@@ -1,15 +1,15 @@
 -- No number of the results is a float.
 use Rattle.std.proofs.Common.{◌≡◌, List, [], ◌∷◌, ◌++◌, Bool, true, false, map, ℕ, refl, Option, Some, None}
 use Rattle.std.specs.Prelude.{filter}
-use Rattle.serde_json.specs.Data.{Data}
+use Rattle.serde_json.specs.Data.{Data, no_members, object}
 use Rattle.serde_json.specs.View.{items_of}
 use Rattle.serde_json.specs.Written.{has_float, items_have_float}
 use Rattle.def_format.specs.Reports.{Answer, Judged, Refused}
-use Rattle.judge_runs.specs.Runs.{Outcome, Reported, Run, Unnamed, Unread}
+use Rattle.judge_runs.specs.Runs.{Conclusion, Outcome, Reported, Run, Unnamed, Unread}
 use Rattle.judge_runs.specs.Wishes.{Condition, is_broken}
 use Rattle.out_json.specs.JsonReports.{nowhere}
 use Rattle.out_json.proofs.Floats.{report_whole}
-use Rattle.judge_results.specs.Results.{broken_data, broken_datas, datas_by, judged_data, orders_data, outcome_data, results_data, run_data}
+use Rattle.judge_results.specs.Results.{broken_data, broken_datas, counts_data, datas_by, first_fields, judged_data, orders_data, outcome_data, run_data}
 
 -- items of which none has a float
 abbrev AreWhole : List Data → Type 0
@@ -53,10 +53,14 @@ orders_whole : (orders : Option ℕ) → has_float (orders_data orders) ≡ fals
 orders_whole None = refl
 orders_whole (Some orders) = refl
 
-pub results_whole : (wishes : List Condition) (runs : List Run) (orders : Option ℕ)
-    → has_float (results_data wishes runs orders) ≡ false
-results_whole wishes runs orders =
-    rw (
-      orders_whole orders,
-      mapped_whole (run_data wishes) (λ (run : Run). outcome_whole wishes run.folder run.outcome) runs,
-    ) refl
+-- the first fields, with these numbers
+pub head_whole : (all fail not_judged pass : ℕ) (orders : Option ℕ) (end : Conclusion)
+    → has_float (object (first_fields (counts_data all fail not_judged pass) (orders_data orders) end no_members))
+    ≡ false
+head_whole all fail not_judged pass orders end = rw (orders_whole orders) refl
+
+-- the values of runs
+pub runs_whole : (wishes : List Condition) (runs : List Run)
+    → items_have_float (items_of (map (run_data wishes) runs)) ≡ false
+runs_whole wishes runs =
+    mapped_whole (run_data wishes) (λ (run : Run). outcome_whole wishes run.folder run.outcome) runs

@@ -94,25 +94,37 @@ abbrev pub orders_data : Option ℕ → Data
 orders_data None = null
 orders_data (Some orders) = number_data orders
 
--- The object of runs with these numbers, that come to this. The field `format` has the version of this format.
-abbrev pub object_data : (counts orders : Data) → Conclusion → (runs : List Data) → Data
-object_data counts orders end runs =
-    object (field "counts" counts (field "format" (number_data 1) (field "orders" orders
-    (field "outcome" (string (outcome_word end)) (field "runs" (array (items_of runs)) no_members)))))
+-- the report of a run of this name
+abbrev pub report_data : (name : List ℕ) → (report : Data) → Data
+report_data name report = object (field "name" (string name) (field "report" report no_members))
+
+-- The first fields of the object of runs with these numbers, that come to this, and more of them. The field `format`
+-- has the version of this format.
+abbrev pub first_fields : (counts orders : Data) → Conclusion → Members → Members
+first_fields counts orders end more =
+    field "counts" counts (field "format" (number_data 1) (field "orders" orders
+    (field "outcome" (string (outcome_word end)) more)))
+
+-- the object, with these reports and these runs
+abbrev pub object_data : (counts orders : Data) → Conclusion → (reports runs : List Data) → Data
+object_data counts orders end reports runs =
+    object (first_fields counts orders end (field "reports" (array (items_of reports))
+    (field "runs" (array (items_of runs)) no_members)))
 
 -- the numbers of runs of these verdicts
 abbrev pub numbers_data : List Verdict → Data
 numbers_data verdicts =
     counts_data (length verdicts) (count_of Fail verdicts) (count_of NotJudged verdicts) (count_of Pass verdicts)
 
-abbrev pub results_data : List Condition → List Run → (orders : Option ℕ) → Data
-results_data wishes runs orders =
-    object_data (numbers_data (map (verdict_of_run wishes) runs)) (orders_data orders) (conclusion wishes runs)
+-- the object of runs with these reports, each as `report_data`
+abbrev pub results_data : List Condition → List Run → (reports : List Data) (orders : Option ℕ) → Data
+results_data wishes runs reports orders =
+    object_data (numbers_data (map (verdict_of_run wishes) runs)) (orders_data orders) (conclusion wishes runs) reports
     (map (run_data wishes) runs)
 
 -- the object without spaces, in one line
-unfoldable pub results_json : List Condition → List Run → (orders : Option ℕ) → List ℕ
-results_json wishes runs orders = compact_text (results_data wishes runs orders) ++ line_feed ∷ []
+unfoldable pub results_json : List Condition → List Run → (reports : List Data) (orders : Option ℕ) → List ℕ
+results_json wishes runs reports orders = compact_text (results_data wishes runs reports orders) ++ line_feed ∷ []
 
 -- ---- the XML of JUnit
 

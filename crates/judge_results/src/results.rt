@@ -5,6 +5,7 @@ ghost use Rattle.serde_json.specs.View.{view};
 ghost use Rattle.std.specs.Prelude.{◌≡◌, ◌++◌, ◌∷◌, [], OnOk, map, true};
 
 use super::case::push_case;
+use super::reports::push_report;
 use super::run_value::run_value;
 use super::texts::{json_text, junit_text};
 use judge_runs::{Counts, Outcome, Wish};
@@ -35,6 +36,8 @@ pub struct Results {
     wanted: Wanted,
     values: Vec<Value>,
     cases: Vec<u8>,
+    /// The reports of runs that fail, each after a comma.
+    reports: Vec<u8>,
 }
 
 /// Adds the value of the run in this folder, of which this comes, if it is wanted.
@@ -80,22 +83,27 @@ fn add_case(
 }
 
 impl Results {
+    ghost use Rattle.def_format.specs.Lines.{line_feed};
+    ghost use Rattle.judge_results.specs.Results.{report_data};
     ghost use Rattle.judge_results.specs.ResultsSoFar.{AreResults, AreTexts};
     ghost use Rattle.judge_runs.specs.Runs.{Run};
     ghost use Rattle.judge_runs.specs.Tallies.{AreCounts};
     ghost use Rattle.judge_runs.specs.Views.{outcome_view, wishes_view};
     ghost use Rattle.judge_runs.specs.Wishes.{Condition};
     ghost use Rattle.judge_results.specs.declared.results.Wanted as wanted;
-    ghost use Rattle.std.specs.Prelude.{◌++◌, ◌∷◌, [], IfOk, List, OnOk};
+    ghost use Rattle.serde_json.specs.Data.{Data};
+    ghost use Rattle.serde_json.specs.Written.{compact_text};
+    ghost use Rattle.std.specs.Prelude.{◌≡◌, ◌++◌, ◌∷◌, [], IfOk, List, OnOk};
 
     /// Of no run.
     pub fn new(alloc: Global, wanted: Wanted) -> Results
-        ensures { (wishes : List Condition) → AreResults wanted wishes [] result }
+        ensures { (wishes : List Condition) → AreResults wanted wishes [] [] result }
     {
         Results {
             wanted,
             values: Vec::new(alloc),
             cases: Vec::new(alloc),
+            reports: Vec::new(alloc),
         }
     }
 
@@ -110,18 +118,33 @@ impl Results {
         folder: &str,
         outcome: &Outcome,
     ) -> Result<(), AllocError>
-        ensures { OnOk result ((wanted : wanted.Wanted) (before : List Run)
-            → AreResults wanted (wishes_view wishes.now) before self.old
+        ensures { OnOk result ((wanted : wanted.Wanted) (before : List Run) (reports : List Data)
+            → AreResults wanted (wishes_view wishes.now) before reports self.old
             → AreResults wanted (wishes_view wishes.now) (before ++ record {
               folder = folder.now;
               outcome = outcome_view outcome.now;
-            } ∷ []) self.new) }
+            } ∷ []) reports self.new) }
     {
         let wanted = self.wanted;
         let values = &mut self.values;
         add_value(values, wanted.json, alloc, wishes, folder, outcome)?;
         let cases = &mut self.cases;
         add_case(cases, wanted.junit, alloc, wishes, folder, outcome)?;
+        Ok(())
+    }
+
+    /// Adds the report of the run of this name. The text is its line, as `judge` writes it: one JSON value and an LF.
+    /// It becomes a part of the JSON text as it is.
+    ///
+    /// # Errors
+    /// Out of memory.
+    pub fn add_report(&mut self, alloc: Global, name: &str, text: &[u8]) -> Result<(), AllocError>
+        ensures { OnOk result ((wanted : wanted.Wanted) (wishes : List Condition) (runs : List Run)
+            (reports : List Data) (report : Data) → AreResults wanted wishes runs reports self.old
+            → text.now ≡ compact_text report ++ line_feed ∷ []
+            → AreResults wanted wishes runs (reports ++ report_data name.now report ∷ []) self.new) }
+    {
+        push_report(&mut self.reports, alloc, name, text)?;
         Ok(())
     }
 
@@ -136,15 +159,16 @@ impl Results {
         orders: Option<u64>,
     ) -> Result<Texts, AllocError>
         ensures { IfOk result (λ texts. (wanted : wanted.Wanted) (wishes : List Condition) (all : List Run)
-            → AreResults wanted wishes all self → AreCounts wishes all counts
-            → AreTexts wanted wishes all orders texts) }
+            (reports : List Data) → AreResults wanted wishes all reports self → AreCounts wishes all counts
+            → AreTexts wanted wishes all reports orders texts) }
     {
         let Results {
             wanted,
             values,
             cases,
+            reports,
         } = self;
-        let json = json_text(alloc, wanted.json, counts, orders, values)?;
+        let json = json_text(alloc, wanted.json, counts, orders, &reports, values)?;
         let junit = junit_text(alloc, wanted.junit, counts, &cases)?;
         Ok(Texts { json, junit })
     }

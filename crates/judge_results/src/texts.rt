@@ -1,11 +1,15 @@
 //! Both texts, by what they are made of.
-ghost use Rattle.judge_results.specs.Results.{counts_data, junit_by, junit_head, numbered, object_data, orders_data, outcome_word, results_json, run_data};
+ghost use Rattle.judge_results.specs.Results.{counts_data, first_fields, junit_by, junit_head, numbered, orders_data, outcome_word, results_json, run_data};
+ghost use Rattle.judge_results.specs.ResultsSoFar.{joined_text, listed};
 ghost use Rattle.judge_runs.specs.Runs.{Run, conclusion};
 ghost use Rattle.judge_runs.specs.Tallies.{AreCounts};
 ghost use Rattle.judge_runs.specs.Wishes.{Condition};
-ghost use Rattle.serde_json.specs.View.{view};
-ghost use Rattle.std.specs.Prelude.{◌≡◌, ◌++◌, IfOk, List, OnOk, map, true};
+ghost use Rattle.serde_json.specs.Data.{Data, array, no_members, object};
+ghost use Rattle.serde_json.specs.View.{items_of, view};
+ghost use Rattle.serde_json.specs.Written.{compact_text, items_have_float};
+ghost use Rattle.std.specs.Prelude.{◌≡◌, ◌++◌, IfOk, List, OnOk, false, map, true};
 
+use super::reports::{without_begin, without_end};
 use judge_runs::Counts;
 use pd_report::{push_bytes, push_number};
 use serde_json::{Value, json};
@@ -48,16 +52,11 @@ fn orders_value(orders: Option<u64>) -> Value
     }
 }
 
-/// The object of runs of which these are the numbers, the number of orders and the values.
-fn results_value(
-    alloc: Global,
-    counts: Counts,
-    orders: Option<u64>,
-    runs: Vec<Value>,
-) -> Result<Value, AllocError>
+/// An object of the first fields of runs of which these are the numbers and the number of orders.
+fn head_value(alloc: Global, counts: Counts, orders: Option<u64>) -> Result<Value, AllocError>
     ensures { IfOk result (λ value. (wishes : List Condition) (all : List Run) → AreCounts wishes all counts
-        → view value ≡ object_data (counts_data counts.all counts.fail counts.not_judged counts.pass)
-        (orders_data orders) (conclusion wishes all) (map view runs.items)) }
+        → view value ≡ object (first_fields (counts_data counts.all counts.fail counts.not_judged counts.pass)
+        (orders_data orders) (conclusion wishes all) no_members)) }
 {
     let numbers = counts_value(alloc, counts)?;
     let different = orders_value(orders);
@@ -66,12 +65,42 @@ fn results_value(
         "counts": numbers,
         "format": 1u64,
         "orders": different,
-        "outcome": outcome,
-        "runs": runs
+        "outcome": outcome
     })
 }
 
-/// The JSON text of runs of which these are the numbers, the number of orders and the values, if it is wanted.
+/// The JSON text of an array of these values.
+fn array_text(alloc: Global, values: Vec<Value>) -> Result<Vec<u8>, AllocError>
+    ensures { IfOk result (λ text. items_have_float (items_of (map view values.items)) ≡ false
+        → text.items ≡ compact_text (array (items_of (map view values.items)))) }
+{
+    let value = Value::from(values);
+    let text = value.to_vec(alloc)?;
+    Ok(text)
+}
+
+/// The JSON text by the text of an object of the first fields, the reports, each after a comma, and the text of the
+/// runs.
+fn joined_text(
+    alloc: Global,
+    head: &[u8],
+    reports: &[u8],
+    runs: &[u8],
+) -> Result<Vec<u8>, AllocError>
+    ensures { IfOk result (λ text. text.items ≡ joined_text head.now reports.now runs.now) }
+{
+    let mut out = Vec::new(alloc);
+    push_bytes(&mut out, without_end(head))?;
+    push_bytes(&mut out, b",\"reports\":[")?;
+    push_bytes(&mut out, without_begin(reports))?;
+    push_bytes(&mut out, b"],\"runs\":")?;
+    push_bytes(&mut out, runs)?;
+    push_bytes(&mut out, b"}\n")?;
+    Ok(out)
+}
+
+/// The JSON text of runs of which these are the numbers, the number of orders, the values, and the reports, each after
+/// a comma, if it is wanted.
 ///
 /// # Errors
 /// Out of memory.
@@ -80,18 +109,20 @@ pub(crate) fn json_text(
     is_wanted: bool,
     counts: Counts,
     orders: Option<u64>,
+    reports: &[u8],
     runs: Vec<Value>,
 ) -> Result<Vec<u8>, AllocError>
-    ensures { IfOk result (λ text. is_wanted ≡ true → (wishes : List Condition) (all : List Run)
+    ensures { IfOk result (λ text. is_wanted ≡ true → (wishes : List Condition) (all : List Run) (datas : List Data)
         → AreCounts wishes all counts → map view runs.items ≡ map (run_data wishes) all
-        → text.items ≡ results_json wishes all orders) }
+        → reports.now ≡ listed datas → text.items ≡ results_json wishes all datas orders) }
 {
     if !is_wanted {
         return Ok(Vec::new(alloc));
     }
-    let value = results_value(alloc, counts, orders, runs)?;
-    let mut text = value.to_vec(alloc)?;
-    text.push(b'\n')?;
+    let value = head_value(alloc, counts, orders)?;
+    let head = value.to_vec(alloc)?;
+    let values = array_text(alloc, runs)?;
+    let text = joined_text(alloc, &head, reports, &values)?;
     Ok(text)
 }
 

@@ -24,6 +24,7 @@ use Rattle.app_host.specs.Formats.{IsFindingIn}
 use Rattle.app_serve.specs.Kept.{WritesFiles}
 use Rattle.app_serve.specs.Served.{IsServed}
 use Rattle.app_serve.proofs.ServedTexts.{weaker_said_in}
+use Rattle.app_results.specs.RunReports.{IsReportOf}
 use Rattle.app_test.specs.Tests.{IsTestText, TestLeaves}
 use Rattle.judge_explore.proofs.Written.{owed_weaker}
 use Rattle.judge_runs.specs.Runs.{Fail, NotJudged, Run, conclusion_by, count_of, verdict_of_run}
@@ -457,7 +458,8 @@ some_not_judged false false h = cc
 module _ (files : List ℕ → File) (options : Options) (wishes : List Condition) (format : Format)
     (folders : List (List ℕ)) where
   test_follows : (P Q : List Run → Type 0) (text : List ℕ) → ((runs : List Run) → P runs → Q runs)
-      → IsTestText files options wishes format P folders text → IsTestText files options wishes format Q folders text
+      → IsTestText files options wishes format (IsReportOf files options) P folders text
+      → IsTestText files options wishes format (IsReportOf files options) Q folders text
   test_follows P Q text go h = record {
     runs = h.runs;
     are_runs = h.are_runs;
@@ -468,12 +470,13 @@ module _ (files : List ℕ → File) (options : Options) (wishes : List Conditio
 
   part_of_test : (failure : Failure) (old new : Option (List ℕ))
       → (failure ≡ WriteFailure) ⊎ (failure ≡ MemoryFailure)
-      → (count : ℕ) × WritesUpTo (IsTestText files options wishes format (λ _. ⊤) (take count folders)) old new
+      → (count : ℕ) × WritesUpTo (IsTestText files options wishes format (IsReportOf files options) (λ _. ⊤)
+      (take count folders)) old new
       → LeavesText (IsTestAt files options wishes format folders (Failed failure)) (Failed failure) old new
   part_of_test failure old new why (count, h) = up_to_weaker _ _ old new (λ text is. (why, count, is)) h
 
   pub test_left : (old new : Option (List ℕ)) (ending : Ending)
-      → TestLeaves files options wishes format folders ending old new
+      → TestLeaves files options wishes format (IsReportOf files options) folders ending old new
       → LeavesText (IsTestAt files options wishes format folders ending) ending old new
   test_left old new Success h = writes_weaker _ _ Whole old new (λ text. test_follows _ _ text (λ runs.
       all_pass (nat_lt 0 (count_of Fail (map (verdict_of_run wishes) runs)))

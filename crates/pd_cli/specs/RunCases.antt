@@ -13,6 +13,7 @@ use Rattle.app_arguments.specs.Places.{Place}
 use Rattle.app_serve.specs.Kept.{WritesFiles}
 use Rattle.app_serve.specs.Served.{IsServed}
 use Rattle.app_infer.specs.Inferences.{EndsInferred}
+use Rattle.app_results.specs.RunReports.{IsReportOf}
 use Rattle.app_test.specs.Tests.{TestLeaves}
 use Rattle.app_batch.specs.Batches.{BatchLeaves}
 use Rattle.app_bundle.specs.Bundles.{BundleLeaves}
@@ -43,7 +44,7 @@ Leaves input files connections network_serves
 Leaves input files connections network_serves (ExploreFiles options fail_on page document streams) =
     By (ExplorationLeaves files options fail_on (AskedPage page) document streams)
 Leaves input files connections network_serves (TestRuns options wishes format runs) =
-    By (TestLeaves files options wishes format runs)
+    By (TestLeaves files options wishes format (IsReportOf files options) runs)
 Leaves input files connections network_serves (InferDocument streams) = EndsInferred files streams
 Leaves input files connections network_serves (JudgeLines options fail_on in_bundles) =
     By (BatchLeaves input options fail_on in_bundles)

@@ -16,6 +16,7 @@ use Rattle.judge_runs.specs.Wishes.{Condition, lacks_name}
 use Rattle.app_host.specs.FileSources.{bytes_in}
 use Rattle.app_host.specs.Formats.{IsFindingIn}
 use Rattle.app_infer.specs.Inferences.{EndsInferred}
+use Rattle.app_results.specs.RunReports.{IsReportOf}
 use Rattle.app_serve.specs.Served.{IsServed}
 use Rattle.app_test.specs.Tests.{IsTestText}
 use Rattle.app_batch.specs.Batches.{BatchLeaves}
@@ -78,9 +79,11 @@ abbrev pub IsTestAt : (files : List ℕ → File) (options : Options) (wishes : 
     (folders : List (List ℕ)) → Ending → (text : List ℕ) → Type 0
 IsTestAt files options wishes format folders (Failed failure) text =
     ((failure ≡ WriteFailure) ⊎ (failure ≡ MemoryFailure))
-    × (count : ℕ) × IsTestText files options wishes format (λ _. ⊤) (take count folders) text
+    × (count : ℕ)
+    × IsTestText files options wishes format (IsReportOf files options) (λ _. ⊤) (take count folders) text
 IsTestAt files options wishes format folders ending text =
-    IsTestText files options wishes format (λ runs. ending ≡ due_of_runs wishes runs) folders text
+    IsTestText files options wishes format (IsReportOf files options) (λ runs. ending ≡ due_of_runs wishes runs) folders
+    text
 
 -- ---- what is left of a document
 

@@ -18,6 +18,7 @@ ghost use Rattle.app_batch.specs.Batches.{BatchLeaves};
 ghost use Rattle.app_bundle.specs.Bundles.{BundleLeaves};
 ghost use Rattle.app_infer.specs.Inferences.{EndsInferred};
 ghost use Rattle.app_merge.specs.Merges.{EndsMerged};
+ghost use Rattle.app_results.specs.RunReports.{IsReportOf};
 ghost use Rattle.app_test.specs.Tests.{TestLeaves};
 ghost use Rattle.judge_runs.specs.Views.{wishes_view};
 ghost use Rattle.def_judgement.specs.Writes.{WritesTruthOfBundle};
@@ -221,6 +222,7 @@ fn run_test<Y: System, O: Write, E: Write>(
 ) -> u8
     ensures { Explained world.now.explain (λ start. Ends (λ ending. TestLeaves (Y.Files.file_of world.now.files.now)
         (options_view test.now.options) (wishes_view test.now.wishes.items) (format_view test.now.format)
+        (IsReportOf (Y.Files.file_of world.now.files.now) (options_view test.now.options))
         (names_view test.now.runs.items) ending (O.contents output.old) (O.contents output.new)) result start
         (E.contents errors.new)) (E.contents errors.old) }
 {

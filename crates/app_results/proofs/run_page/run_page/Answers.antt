@@ -1,17 +1,22 @@
--- The name says which it is.
+-- The page has what is asked beside the run.
+use Rattle.std.proofs.Common.{List, ap, refl, subst, ◌∙◌}
+use Rattle.app_arguments.specs.Statuses.{PageOptions}
+use Rattle.app_host.specs.FileSources.{bytes_in}
 use Rattle.judge_runs.specs.Views.{wishes_view}
-use Rattle.pd_spec.specs.Views.{options_view}
-use Rattle.app_results.proofs.BundlePages.{page_of_bundle, page_of_folder}
+use Rattle.judge_runs.specs.declared.wish.Wish.{Wish}
+use Rattle.out_page.specs.Views.{extras_view}
+use Rattle.app_explore.specs.Explorations.{AreExtras, AskedPage}
+use Rattle.app_results.specs.RunPages.{page_of_wishes}
 use Rattle.app_results.proofs.run_page.run_page.Goals as goal
-
-pub returns-then-is_bundle_name : goal.returns-then-is_bundle_name
-returns-then-is_bundle_name g c =
-    page_of_bundle (g.Y.Files.FileSource.file_of c.args.world.now.files.now) (options_view c.args.test.now.options)
-    (wishes_view c.args.test.now.wishes.items) c.args.name.now c.is_bundle_name.result c.bundle_page.result
-    c.if-is_bundle_name.true c.is_bundle_name.ensures.yes c.bundle_page.ensures
 
 pub returns : goal.returns
 returns g c =
-    page_of_folder (g.Y.Files.FileSource.file_of c.args.world.now.files.now) (options_view c.args.test.now.options)
-    (wishes_view c.args.test.now.wishes.items) c.args.name.now c.is_bundle_name.result c.folder_page.result
-    c.if-is_bundle_name.false c.is_bundle_name.ensures.no c.folder_page.ensures
+    let files = g.Y.Files.FileSource.file_of c.args.world.now.files.now in
+    let page = page_of_wishes (wishes_view c.args.test.now.wishes.items) in
+    let extras = extras_view c.in_ok-extras.extras in
+    let beside : AreExtras (bytes_in files) page extras =
+    subst (λ (asked : PageOptions). AreExtras (bytes_in files) asked extras)
+    (c.in_ok-asked.ensures
+    ∙ ap (λ (wishes : List Wish). page_of_wishes (wishes_view wishes)) c.deref.ensures.value)
+    c.in_ok-extras.ensures.extras in
+    c.run_text.ensures.made (AskedPage page) (extras, beside, refl)

@@ -22,9 +22,9 @@ returns-in_err-note_failing-clause-left g c =
 
 pub returns-clause-written : goal.returns-clause-written
 returns-clause-written g c = record {
-  stands = λ wanted earlier are. record {
+  stands = λ wanted earlier reports are. record {
     tally = c.in_ok-write_run.ensures.stands earlier are.tally;
-    results = c.in_ok-add.ensures wanted earlier are.results;
+    results = c.in_ok-add.ensures wanted earlier reports are.results;
   };
   written = c.in_ok-write_run.ensures.written;
   failing = c.in_ok-note_failing.ensures;

@@ -10,13 +10,13 @@ pub loop-place-init : goal.loop-place-init
 loop-place-init g c =
     rw c.new-failing.ensures.items
     (begin (format_view c.args.asked.now.format) (wishes_view c.args.asked.now.wishes.now)
-    c.args.asked.now.has_pages
+    c.args.asked.now.lists_failing
     (names_view c.args.folders.now) c.args.found.now c.args.records.now (g.O.Write.contents c.args.output.now))
 
 pub loop-place-preserved : goal.loop-place-preserved
 loop-place-preserved g c =
     step (format_view c.args.asked.now.format) (wishes_view c.args.asked.now.wishes.now)
-    c.args.asked.now.has_pages (names_view c.args.folders.now) c.args.found.now
+    c.args.asked.now.lists_failing (names_view c.args.folders.now) c.args.found.now
     c.loop-place.place (omega (arith, c.loop-place-test.true, length-map c.args.folders.now (λ name. name.now)))
     (omega (arith, c.loop-place-test.true, c.requires)) _ _
     (sym (get_or-map (λ name. name.now) c.args.folders.now c.loop-place.place _ _ c.loop-place-test.true))
@@ -29,7 +29,7 @@ pub returns-in_err-put_run-clause-left : goal.returns-in_err-put_run-clause-left
 returns-in_err-put_run-clause-left g c =
     on_err c.from_residual.result
     (stop (format_view c.args.asked.now.format) (wishes_view c.args.asked.now.wishes.now)
-    c.args.asked.now.has_pages (names_view c.args.folders.now) c.args.found.now
+    c.args.asked.now.lists_failing (names_view c.args.folders.now) c.args.found.now
     c.loop-place.place (omega (arith, c.loop-place-test.true, length-map c.args.folders.now (λ name. name.now)))
     (omega (arith, c.loop-place-test.true, c.requires)) _ _
     (sym (get_or-map (λ name. name.now) c.args.folders.now c.loop-place.place _ _ c.loop-place-test.true))

@@ -36,7 +36,7 @@ returns-clause-tested g c =
     (subst (λ (rs : List (Result outcomes.Outcome EngineFault)).
     AllZip (IsRunIn files options wishes) (take (length (runs_of folders rs)) folders) (runs_of folders rs))
     (sym c.deref.ensures.value) c.in_ok-found.ensures.runs)
-    c.put_runs.result c.args.asked.now.has_pages c.args.tested.now.records c.put_runs.new.records
+    c.put_runs.result c.args.asked.now.lists_failing c.args.tested.now.records c.put_runs.new.records
     (λ failing. names_view failing.items)
     (length c.args.folders.now) (sym (length-map c.args.folders.now (λ name. name.now))) c.put_runs.ensures.whole
     c.put_runs.ensures.written

@@ -3,7 +3,7 @@ use Rattle.app_test.proofs.tests.test_some.Goals as goal
 
 pub returns-clause-tested : goal.returns-clause-tested
 returns-clause-tested g c =
-    rw (c.deref.ensures.value, c.is_some.ensures) at c.test_asked.ensures.tested
+    rw (c.deref.ensures.value, c.lists_failing.ensures) at c.test_asked.ensures.tested
 
 pub returns-clause-left : goal.returns-clause-left
 returns-clause-left g c =

@@ -7,6 +7,6 @@ use Rattle.app_test.proofs.records.Records.new.Goals as goal
 pub returns : goal.returns
 returns c = λ wishes. record {
   tally = c.new.ensures wishes;
-  results = subst (λ (wanted : Wanted). AreResults wanted wishes [] c.new-2.result) c.wanted_by.ensures
+  results = subst (λ (wanted : Wanted). AreResults wanted wishes [] [] c.new-2.result) c.wanted_by.ensures
       (c.new-2.ensures wishes);
 }
