@@ -106,8 +106,23 @@ def unknown():
     yield wide("a search back comes to too many dead ends", "a.x + b.x + c.x == 3", beyond)
     yield wide("a level is too wide for any width", "a.x + b.x + c.x > 5", (), "abcdefghijklmnop", 3, 60_000)
     late = "a.x + b.x + c.x > 8 and a.x + b.x + d.x < 4"
-    yield wide("a level is too wide, and no rule decides", late, beyond, "abcdefghijklmnop", 3, 60_000)
+    named = f"{late} and {' + '.join(f'{it}.x' for it in 'efghijklmnop')} >= 0"
+    yield wide("a level is too wide, and no rule decides", named, beyond, "abcdefghijklmnop", 3, 60_000)
+    yield wide("a level is too wide, and the events that change what is named decide", late, beyond,
+               "abcdefghijklmnop", 3, 60_000)
+    yield reduced("possibly", "a.x + b.x + c.x == 1110", 8, {"a": (10, 0), "b": (100, 0), "c": (1000, 2000, 0)})
+    yield reduced("definitely", "a.x + b.x + c.x == 4", 7, {name: (1, 2) for name in "abc"})
     yield wide("a level is too wide for the greatest width", late, (), "abcdefghijklmnop", 3, 65_536)
+
+
+def reduced(question, text, width, values):
+    """A session with these values that is unknown because of events that set another variable."""
+    spec = document(text, width=width, processes=[{"name": it, "vars": {"n": 0, "x": 0}} for it in values])
+    other = '{"set":{"n":1}}\n{"set":{"n":2}}\n'
+    files = {f"{name}.stream": f'{{"process":"{name}"}}\n{other}'
+             + "".join(f'{{"set":{{"x":{value}}}}}\n{other}' for value in of) + END for name, of in values.items()}
+    return Case(f"what is unknown of {question} is decided by the events that change what is named",
+                {"session.json": spec, **files}, ("judge", "session.json", *files, "--beyond-width"))
 
 
 def wide_by_connections():

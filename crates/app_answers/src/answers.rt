@@ -1,17 +1,21 @@
 //! What is said of each answer that is known.
 ghost use Rattle.app_answers.specs.Sessions.{IsJudged};
 
+use super::lifted::{is_never, lifted_of};
 use super::possible::{named_count, say_possible};
 use super::session::Session;
 use super::undecided::{say_bundle, say_undecided};
 use super::why_not::say_why_not;
 use app_text::Text;
 use judge_facts::first_run;
+use judge_lifted::LiftedAnswer;
 use pd_pred::Pred;
 use pd_report::{Answer, Definitely, Path, Possibly};
 use pd_spec::NamedPred;
 use std::alloc::Global;
 use std::random::RandomSource;
+use std::sync::Wait;
+use std::thread::Threads;
 
 /// The most runs of steps by which an observation is said.
 const RUNS: u64 = 4;
@@ -115,7 +119,8 @@ fn say_avoidable(out: &mut Text, name: &str, path: &Path) {
     say_path(out, path);
 }
 
-/// Says what a known answer means. That what can't happen need not isn't said.
+/// Says what a known answer means. That what can't happen need not isn't said, also if it is the reduction of the run
+/// by which it can't.
 fn say_answer<R: RandomSource>(
     out: &mut Text,
     rt: &R,
@@ -123,6 +128,7 @@ fn say_answer<R: RandomSource>(
     session: &Session<'_, '_>,
     asked: &NamedPred,
     answer: &Answer,
+    lifted: Option<&LiftedAnswer>,
 )
     requires { IsJudged session.now }
 {
@@ -133,7 +139,11 @@ fn say_answer<R: RandomSource>(
             say_impossible(out, rt, alloc, session, name, &asked.pred);
             return;
         }
-        Possibly::Unknown(_) => {}
+        Possibly::Unknown(_) => {
+            if is_never(lifted) {
+                return;
+            }
+        }
     }
     match &answer.definitely {
         Definitely::Yes(level) => say_always(out, name, *level),
@@ -145,7 +155,10 @@ fn say_answer<R: RandomSource>(
 /// Explains each answer that is known: that the predicate can happen, where and why, that it can't, that it always
 /// does, or that it need not; and says of each one that is unknown what would decide it at any width. The answers are
 /// those for the predicates of the document, in its order.
-pub fn explain_known<R: RandomSource>(
+///
+/// If one is unknown that was asked beyond the width, the reduction of the run is judged, once for all: what that
+/// decides is explained in place of what would decide it.
+pub fn explain_known<R: RandomSource + Threads + Wait + Sync>(
     out: &mut Text,
     rt: &R,
     alloc: Global,
@@ -155,11 +168,13 @@ pub fn explain_known<R: RandomSource>(
     requires { IsJudged session.now }
 {
     let predicates = session.spec.predicates();
+    let lifted = lifted_of(out, rt, alloc, session, answers);
     let mut is_undecided = false;
     for (place, answer) in answers.iter().enumerate() {
         if let Some(asked) = predicates.get(place) {
-            say_answer(out, rt, alloc, session, asked, answer);
-            let said = say_undecided(out, session, asked.pred.tree(), answer);
+            let tree = asked.pred.tree();
+            say_answer(out, rt, alloc, session, asked, answer, lifted.get(place));
+            let said = say_undecided(out, alloc, session, tree, answer, lifted.get(place));
             is_undecided = is_undecided || said;
         }
     }

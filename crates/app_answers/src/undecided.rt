@@ -1,10 +1,13 @@
 //! Says what would decide an answer that is unknown at any width, or which rule doesn't apply.
 use super::forms::{PossiblyForm, decides_definitely, possibly_form};
+use super::lifted::{Unknown, say_lifted, unknown_of};
 use super::session::Session;
 use app_text::Text;
 use def_format::WIDTH_LIMIT;
+use judge_lifted::LiftedAnswer;
 use pd_pred::Tree;
-use pd_report::{Answer, Definitely, Possibly};
+use pd_report::Answer;
+use std::alloc::Global;
 
 /// What is said of a Possibly that is unknown, and was asked at the width alone.
 fn possibly_ways(form: PossiblyForm) -> &'static str {
@@ -100,36 +103,54 @@ pub(crate) fn say_bundle(out: &mut Text, session: &Session<'_, '_>, is_undecided
     }
 }
 
-/// Says of a predicate of which an answer is unknown what would decide it at any width, or which rule doesn't apply.
-/// Nothing is judged for that: it is said by the predicate alone, and by how it was asked. It gives whether an answer
-/// is unknown.
-pub(crate) fn say_undecided(
+/// Says what would decide what is unknown of a predicate at any width, or which rule doesn't apply.
+fn say_unknown(
     out: &mut Text,
     session: &Session<'_, '_>,
+    name: &str,
     tree: &Tree,
-    answer: &Answer,
-) -> bool {
+    unknown: Unknown,
+) {
     let processes = session.computation.processes();
-    let possibly = match &answer.possibly {
-        Possibly::Unknown(_) => Some(possibly_form(tree, processes)),
-        Possibly::Yes(_) | Possibly::No => None,
+    let possibly = if unknown.possibly {
+        Some(possibly_form(tree, processes))
+    } else {
+        None
     };
-    let is_definitely_unknown = match &answer.definitely {
-        Definitely::Unknown(_) => true,
-        Definitely::Yes(_) | Definitely::No(_) => false,
-    };
-    if possibly.is_none() && !is_definitely_unknown {
-        return false;
-    }
-    out.say_name(answer.name.as_str());
+    out.say_name(name);
     out.say(" is undecided: ");
     if session.spec.beyond_width() {
         let width = session.spec.width();
-        say_reasons(out, possibly, is_definitely_unknown.then_some(width));
+        say_reasons(out, possibly, unknown.definitely.then_some(width));
     } else {
         let decides = decides_definitely(tree, processes);
-        say_ways(out, possibly, is_definitely_unknown.then_some(decides));
+        say_ways(out, possibly, unknown.definitely.then_some(decides));
     }
     out.say(".\n");
+}
+
+/// Says of a predicate of which an answer is unknown what the reduction of the run decides, if that was judged. Of what
+/// is left it says what would decide it at any width, or which rule doesn't apply: by the predicate alone, and by how
+/// it was asked. It gives whether an answer is unknown.
+pub(crate) fn say_undecided(
+    out: &mut Text,
+    alloc: Global,
+    session: &Session<'_, '_>,
+    tree: &Tree,
+    answer: &Answer,
+    lifted: Option<&LiftedAnswer>,
+) -> bool {
+    let unknown = unknown_of(answer);
+    if !unknown.is_some() {
+        return false;
+    }
+    let name = answer.name.as_str();
+    let left = match lifted {
+        Some(lifted) => say_lifted(out, alloc, session, name, tree, unknown, lifted),
+        None => unknown,
+    };
+    if left.is_some() {
+        say_unknown(out, session, name, tree, left);
+    }
     true
 }

@@ -65,7 +65,7 @@ fn sources_of<'a>(
 }
 
 /// Explains the answers of a session by what it says.
-fn put_session<R: RandomSource>(
+fn put_session<R: RandomSource + Threads + Wait + Sync>(
     out: &mut Text,
     rt: &R,
     alloc: Global,
@@ -81,7 +81,7 @@ fn put_session<R: RandomSource>(
 }
 
 /// The same of these traces. If they make no computation, what is unknown is said.
-fn put_traces<R: RandomSource>(
+fn put_traces<R: RandomSource + Threads + Wait + Sync>(
     out: &mut Text,
     rt: &R,
     alloc: Global,
@@ -143,8 +143,8 @@ fn put_read<T: RandomSource + Threads + Wait + Sync>(
 }
 
 /// Explains the answers of a session that was judged: what can happen, where and why, what can't, and what is unknown;
-/// and what may be green by accident. The session is read again from the bytes that were read of it, and nothing is
-/// judged again.
+/// and what may be green by accident. The session is read again from the bytes that were read of it. If an answer is
+/// unknown that was asked beyond the width, the reduction of its run is judged; else nothing is judged again.
 pub(crate) fn put_answers<T: RandomSource + Threads + Wait + Sync>(
     out: &mut Text,
     rt: &T,

@@ -1,0 +1,3 @@
+-- The modules of definitions of this crate.
+pub mod Lifted
+pub mod Truths
