@@ -10,7 +10,8 @@ fn put_bundled<Y: System>(out: &mut Text, world: &World<'_, Y>, end: &Result<boo
         Ok(true) => (),
         Ok(false) => out.say(
             "What to do: the lines with an `error` name the files. A run is a folder with session.json and, for each \
-process NAME of that, NAME.stream.\n",
+process NAME of that, NAME.stream. Bundles aren't bundled: `monitor batch --bundles` judges what `cat` writes of them \
+with a line `===` between each two.\n",
         ),
         Err(fault) => put_fault(out, world, None, "", &[], fault),
     }
