@@ -171,35 +171,39 @@ JoinsUpTo last None = Unit {0}
 JoinsUpTo last (Some joined) = joined.1 ≤ last
 
 course_within : (last : ℕ) (names : List ProcessNames) (process before : ℕ) (lines : List Line) → AreUpTo last lines
-    → StopsUpTo last (course_of names process before lines).stop
+    → StopsUpTo last (course_of event_limit names process before lines).stop
 course_within last names process before [] all = tt
 course_within last names process before (first ∷ later) all =
     go (record_of names (Some process) first.bytes)
     (course_within last names process (suc before) later all.1)
   where
-    go : (r : Result LineRecord RecordFault) → StopsUpTo last (course_of names process (suc before) later).stop
-        → StopsUpTo last (course_from before first.number r (course_of names process (suc before) later)).stop
+    go : (r : Result LineRecord RecordFault)
+        → StopsUpTo last (course_of event_limit names process (suc before) later).stop
+        → StopsUpTo last (course_from event_limit before first.number r (course_of event_limit names process
+        (suc before) later)).stop
     go (Ok (Joins p)) more = all.0
     go (Ok (Happens event)) more =
         pick (nat_lt before event_limit) (stopped (Fault first.number TooManyEvents)) all.0
       where
         pick : (b : Bool) (other : Course) → StopsUpTo last other.stop
-            → StopsUpTo last (cond b (with_first event (course_of names process (suc before) later)) other).stop
+            → StopsUpTo last (cond b (with_first event (course_of event_limit names process
+            (suc before) later)) other).stop
         pick true other h = more
         pick false other h = h
     go (Ok Ends) more = tt
     go (Err fault) more = all.0
 
 read_within : (last : ℕ) (names : List ProcessNames) (lines : List Line) → AreUpTo last lines
-    → StopsUpTo last (reading_of_lines names lines).stop × JoinsUpTo last (reading_of_lines names lines).joined
+    → StopsUpTo last (reading_of_lines event_limit names lines).stop × JoinsUpTo last
+    (reading_of_lines event_limit names lines).joined
 read_within last names [] all = (tt, tt)
 read_within last names (first ∷ later) all =
     go (record_of names None first.bytes) (λ process. course_within last names process 0 later all.1)
   where
     go : (r : Result LineRecord RecordFault)
-        → ((process : ℕ) → StopsUpTo last (course_of names process 0 later).stop)
-        → StopsUpTo last (reading_from first.number r (λ process. course_of names process 0 later)).stop
-        × JoinsUpTo last (reading_from first.number r (λ process. course_of names process 0 later)).joined
+        → ((process : ℕ) → StopsUpTo last (course_of event_limit names process 0 later).stop)
+        → StopsUpTo last (reading_from first.number r (λ process. course_of event_limit names process 0 later)).stop
+        × JoinsUpTo last (reading_from first.number r (λ process. course_of event_limit names process 0 later)).joined
     go (Ok (Joins p)) more = (more p, all.0)
     go (Ok (Happens event)) more = (all.0, tt)
     go (Ok Ends) more = (all.0, tt)
@@ -248,7 +252,7 @@ result_within last (Fault number kind) end joined events result s t j e =
 pub result_is_up_to : (names : List ProcessNames) (ending : Ending) (bytes : List ℕ) (result : Result Trace StreamFault)
     → result_of (reading names ending bytes) ≡ Some result → ResultIsUpTo last_line result
 result_is_up_to names ending bytes result e =
-    let whole : Reading = reading_of_lines names (lines_of ending bytes) in
+    let whole : Reading = reading_of_lines event_limit names (lines_of ending bytes) in
     let w = read_within last_line names (lines_of ending bytes) (lines_within ending bytes) in
     result_within last_line whole.stop (stop_at_end ending bytes (frame_fault bytes)) whole.joined whole.events result
     w.0 (end_within ending bytes (frame_fault bytes) refl) w.1 e

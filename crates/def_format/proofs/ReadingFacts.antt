@@ -10,8 +10,8 @@ use Rattle.def_format.specs.Limits.{event_limit}
 use Rattle.def_format.proofs.LineFacts.{lines_go_on_lem, fault-stays, sound-all, numbered-append}
 
 course_from-same : (n number : ℕ) (r : Result LineRecord RecordFault) (later new : Course)
-    → (IsClosed later.stop → new ≡ later) → IsClosed (course_from n number r later).stop
-    → course_from n number r new ≡ course_from n number r later
+    → (IsClosed later.stop → new ≡ later) → IsClosed (course_from event_limit n number r later).stop
+    → course_from event_limit n number r new ≡ course_from event_limit n number r later
 course_from-same n number (Ok (Joins p)) later new same closed = refl
 course_from-same n number (Ok (Happens event)) later new same closed =
     go (nat_lt n event_limit) (stopped (Fault number TooManyEvents)) closed
@@ -24,12 +24,13 @@ course_from-same n number (Ok Ends) later new same closed = refl
 course_from-same n number (Err fault) later new same closed = refl
 
 course-same : (names : List ProcessNames) (process n : ℕ) (ls new : List Line)
-    → IsClosed (course_of names process n ls).stop → course_of names process n (ls ++ new)
-    ≡ course_of names process n ls
+    → IsClosed (course_of event_limit names process n ls).stop → course_of event_limit names process n (ls ++ new)
+    ≡ course_of event_limit names process n ls
 course-same names process n [] new closed = elim closed [ ]
 course-same names process n (l ∷ ls) new closed =
-    course_from-same n l.number (record_of names (Some process) l.bytes) (course_of names process (suc n) ls)
-    (course_of names process (suc n) (ls ++ new)) (course-same names process (suc n) ls new) closed
+    course_from-same n l.number (record_of names (Some process) l.bytes) (course_of event_limit names process
+    (suc n) ls)
+    (course_of event_limit names process (suc n) (ls ++ new)) (course-same names process (suc n) ls new) closed
 
 reading_from-same : (number : ℕ) (r : Result LineRecord RecordFault) (later new : ℕ → Course)
     → ((process : ℕ) → IsClosed (later process).stop → new process ≡ later process)
@@ -40,12 +41,12 @@ reading_from-same number (Ok (Happens event)) later new same closed = refl
 reading_from-same number (Ok Ends) later new same closed = refl
 reading_from-same number (Err fault) later new same closed = refl
 
-lines-same : (names : List ProcessNames) (ls new : List Line) → IsClosed (reading_of_lines names ls).stop
-    → reading_of_lines names (ls ++ new) ≡ reading_of_lines names ls
+lines-same : (names : List ProcessNames) (ls new : List Line) → IsClosed (reading_of_lines event_limit names ls).stop
+    → reading_of_lines event_limit names (ls ++ new) ≡ reading_of_lines event_limit names ls
 lines-same names [] new closed = elim closed [ ]
 lines-same names (l ∷ ls) new closed =
-    reading_from-same l.number (record_of names None l.bytes) (λ p. course_of names p 0 ls)
-    (λ p. course_of names p 0 (ls ++ new)) (λ p. course-same names p 0 ls new) closed
+    reading_from-same l.number (record_of names None l.bytes) (λ p. course_of event_limit names p 0 ls)
+    (λ p. course_of event_limit names p 0 (ls ++ new)) (λ p. course-same names p 0 ls new) closed
 
 -- if the lines are closed, the end adds nothing
 end-same : (r : Reading) (stop : Stop) → IsClosed r.stop → with_end stop r ≡ r
@@ -105,16 +106,17 @@ closed_stays_lem names ending bytes more closed = go (frame_fault bytes) refl
         ≡ reading names Open bytes
     go (Some fault) e =
         rw ((fault-stays bytes more fault e).same_fault, same_lines_of ending bytes more fault e, e)
-        (ap (λ s. with_end s (reading_of_lines names (open_lines bytes)))
+        (ap (λ s. with_end s (reading_of_lines event_limit names (open_lines bytes)))
         (same_stop ending bytes (bytes ++ more) fault))
     go None e =
-        let shut : IsClosed (reading_of_lines names (open_lines bytes)).stop =
-        rw (nothing_more (reading_of_lines names (open_lines bytes)).stop) at (rw e at closed) in
+        let shut : IsClosed (reading_of_lines event_limit names (open_lines bytes)).stop =
+        rw (nothing_more (reading_of_lines event_limit names (open_lines bytes)).stop) at (rw e at closed) in
         let begun = lines_begin ending bytes more e in
         ap (λ ls. with_end (stop_at_end ending (bytes ++ more) (frame_fault (bytes ++ more)))
-        (reading_of_lines names ls)) begun.1
+        (reading_of_lines event_limit names ls)) begun.1
         ∙ ap (λ r. with_end (stop_at_end ending (bytes ++ more) (frame_fault (bytes ++ more))) r)
         (lines-same names (open_lines bytes) begun.0 shut)
-        ∙ end-same (reading_of_lines names (open_lines bytes))
+        ∙ end-same (reading_of_lines event_limit names (open_lines bytes))
         (stop_at_end ending (bytes ++ more) (frame_fault (bytes ++ more))) shut
-        ∙ sym (end-same (reading_of_lines names (open_lines bytes)) (stop_at_end Open bytes (frame_fault bytes)) shut)
+        ∙ sym (end-same (reading_of_lines event_limit names (open_lines bytes)) (stop_at_end Open bytes
+        (frame_fault bytes)) shut)

@@ -10,12 +10,12 @@ use Rattle.serde_json.specs.Find.{get_member}
 use Rattle.std.specs.Str.{bytes_eq}
 use Rattle.def_model.specs.Events.{Event, Linked, Kind}
 use Rattle.def_format.specs.Lists.{unless}
-use Rattle.def_format.specs.Lines.{Line}
+use Rattle.def_format.specs.Lines.{Line, frame_fault}
 use Rattle.def_format.specs.Names.{ProcessNames, process_named, vars_of}
 use Rattle.def_format.specs.Records.{RecordFault, Join, LineRecord, Joins, Happens, Ends, Statement, SaysJoin, SaysEnd, SaysEvent, json_value, whole_number, statement_of, sets_from, join_record, record_of_shape, record_of_value, record_of}
-use Rattle.def_format.specs.Readings.{Ending, Stop, NothingMore, EndLine, Fault, InRecord, TooManyEvents, Reading, not_joined, reading_of_lines, lines_of, reading, result_by_stop, result_of, Trace}
+use Rattle.def_format.specs.Readings.{Ending, Stop, NothingMore, EndLine, Fault, InRecord, TooManyEvents, Reading, not_joined, reading_of_lines, lines_of, stop_at_end, with_end, reading, result_by_stop, result_of, Trace}
 use Rattle.def_format.specs.Limits.{event_limit}
-use Rattle.def_format.specs.ReadingLaws.{stopped_by, after_record, process_of, read_line, unless_stopped, read_on, FitsProcess, FitsSession}
+use Rattle.def_format.specs.ReadingLaws.{stopped_by, after_record, process_of, read_line, unless_stopped, read_on, FitsProcess, FitsSession, FitsWithin, LinesFit}
 use Rattle.def_format.proofs.ReadingSteps.{from_start}
 
 -- ---- sets
@@ -124,26 +124,26 @@ events_fit_record names q bytes event h = value_happens names q (json_value byte
 same_first : (a b : ℕ × ℕ) → Some a ≡ Some b → a.0 ≡ b.0
 same_first a b e = let same : a ≡ b = cc in ap (λ (x : ℕ × ℕ). x.0) same
 
-record FitsReading (names : List ProcessNames) (r : Reading) : Type 0 where
+record FitsReading (limit : ℕ) (names : List ProcessNames) (r : Reading) : Type 0 where
   process_known : (p n : ℕ) → r.joined ≡ Some (p, n) → p < length names
-  few : length r.events ≤ event_limit
+  few : length r.events ≤ limit
   fit : (p n : ℕ) → r.joined ≡ Some (p, n) → All (FitsProcess names p) r.events
   none : r.joined ≡ None → r.events ≡ []
 
-stopped_fits : (names : List ProcessNames) (r : Reading) (stop : Stop) → FitsReading names r
-    → FitsReading names (stopped_by r stop)
-stopped_fits names r stop f = record { process_known = f.process_known; few = f.few; fit = f.fit; none = f.none }
+stopped_fits : (limit : ℕ) (names : List ProcessNames) (r : Reading) (stop : Stop) → FitsReading limit names r
+    → FitsReading limit names (stopped_by r stop)
+stopped_fits limit names r stop f = record { process_known = f.process_known; few = f.few; fit = f.fit; none = f.none }
 
 All-nil : {A : Type 0} (P : A → Type 0) (xs : List A) → xs ≡ [] → All P xs
 All-nil P [] e = λ k d below. absurd (omega arith)
 All-nil P (x ∷ xs) e = absurd (cc)
 
-line_fits : (names : List ProcessNames) (r : Reading) (line : Line) → FitsReading names r
-    → FitsReading names (read_line names r line)
-line_fits names r line f = go r.joined refl (record_of names (process_of r.joined) line.bytes) refl
+line_fits : (limit : ℕ) (names : List ProcessNames) (r : Reading) (line : Line) → FitsReading limit names r
+    → FitsReading limit names (read_line limit names r line)
+line_fits limit names r line f = go r.joined refl (record_of names (process_of r.joined) line.bytes) refl
   where
     joins : (p : ℕ) → r.joined ≡ None → record_of names (process_of r.joined) line.bytes ≡ Ok (Joins p)
-        → FitsReading names (record { joined = Some (p, line.number); events = r.events; stop = NothingMore })
+        → FitsReading limit names (record { joined = Some (p, line.number); events = r.events; stop = NothingMore })
     joins p e h = record {
       process_known = λ q n s. let same : p ≡ q = same_first (p, line.number) (q, n) s in let below : p < length names =
           joins_known names line.bytes p (rw e at h) in omega (arith, same, below);
@@ -153,12 +153,13 @@ line_fits names r line f = go r.joined refl (record_of names (process_of r.joine
     }
 
     happens : (q n : ℕ) (event : Event) → r.joined ≡ Some (q, n) → record_of names (process_of r.joined) line.bytes
-        ≡ Ok (Happens event) → (b : Bool) → nat_lt (length r.events) event_limit ≡ b
-        → FitsReading names (cond b (record { joined = r.joined; events = r.events ++ event ∷ []; stop = NothingMore })
+        ≡ Ok (Happens event) → (b : Bool) → nat_lt (length r.events) limit ≡ b
+        → FitsReading limit names (cond b
+        (record { joined = r.joined; events = r.events ++ event ∷ []; stop = NothingMore })
         (stopped_by r (Fault line.number TooManyEvents)))
-    happens q n event e h false t = stopped_fits names r (Fault line.number TooManyEvents) f
+    happens q n event e h false t = stopped_fits limit names r (Fault line.number TooManyEvents) f
     happens q n event e h true t =
-        let room : length r.events < event_limit = grind (arith, nat_tests, t) in
+        let room : length r.events < limit = grind (arith, nat_tests, t) in
         let count = length-append r.events (event ∷ []) in
         let one : FitsProcess names q event = events_fit_record names q line.bytes event (rw e at h) in
         record {
@@ -171,56 +172,61 @@ line_fits names r line f = go r.joined refl (record_of names (process_of r.joine
         }
 
     go : (j : Option (ℕ × ℕ)) → r.joined ≡ j → (o : Result LineRecord RecordFault)
-        → record_of names (process_of r.joined) line.bytes ≡ o → FitsReading names (after_record j r line.number o)
+        → record_of names (process_of r.joined) line.bytes ≡ o
+        → FitsReading limit names (after_record limit j r line.number o)
     go None e (Ok (Joins p)) h = joins p e h
-    go None e (Ok (Happens event)) h = stopped_fits names r (Fault line.number (InRecord Join)) f
-    go None e (Ok Ends) h = stopped_fits names r (Fault line.number (InRecord Join)) f
-    go None e (Err fault) h = stopped_fits names r (Fault line.number (InRecord fault)) f
-    go (Some j) e (Ok (Joins p)) h = stopped_fits names r (Fault line.number (InRecord Join)) f
-    go (Some j) e (Ok (Happens event)) h = happens j.0 j.1 event e h (nat_lt (length r.events) event_limit) refl
-    go (Some j) e (Ok Ends) h = stopped_fits names r EndLine f
-    go (Some j) e (Err fault) h = stopped_fits names r (Fault line.number (InRecord fault)) f
+    go None e (Ok (Happens event)) h = stopped_fits limit names r (Fault line.number (InRecord Join)) f
+    go None e (Ok Ends) h = stopped_fits limit names r (Fault line.number (InRecord Join)) f
+    go None e (Err fault) h = stopped_fits limit names r (Fault line.number (InRecord fault)) f
+    go (Some j) e (Ok (Joins p)) h = stopped_fits limit names r (Fault line.number (InRecord Join)) f
+    go (Some j) e (Ok (Happens event)) h = happens j.0 j.1 event e h (nat_lt (length r.events) limit) refl
+    go (Some j) e (Ok Ends) h = stopped_fits limit names r EndLine f
+    go (Some j) e (Err fault) h = stopped_fits limit names r (Fault line.number (InRecord fault)) f
 
-lines_fit : (names : List ProcessNames) (r : Reading) (ls : List Line) → FitsReading names r
-    → FitsReading names (read_on names r ls)
-lines_fit names r [] f = f
-lines_fit names r (line ∷ later) f =
-    lines_fit names (unless_stopped r.stop r (read_line names r line)) later (go r.stop)
+lines_fit : (limit : ℕ) (names : List ProcessNames) (r : Reading) (ls : List Line) → FitsReading limit names r
+    → FitsReading limit names (read_on limit names r ls)
+lines_fit limit names r [] f = f
+lines_fit limit names r (line ∷ later) f =
+    lines_fit limit names (unless_stopped r.stop r (read_line limit names r line)) later (go r.stop)
   where
-    go : (s : Stop) → FitsReading names (unless_stopped s r (read_line names r line))
-    go NothingMore = line_fits names r line f
+    go : (s : Stop) → FitsReading limit names (unless_stopped s r (read_line limit names r line))
+    go NothingMore = line_fits limit names r line f
     go EndLine = f
     go (Fault number kind) = f
 
-reading_fits : (names : List ProcessNames) (ending : Ending) (bytes : List ℕ)
-    → FitsReading names (reading names ending bytes)
-reading_fits names ending bytes =
-    let started : FitsReading names (not_joined NothingMore) =
+started : (limit : ℕ) (names : List ProcessNames) → FitsReading limit names (not_joined NothingMore)
+started limit names =
     record { process_known = λ p n e. absurd (cc); few = omega arith; fit = λ p n e. absurd (cc); none = λ _. refl }
-    in
-    let read : FitsReading names (reading_of_lines names (lines_of ending bytes)) =
-    subst (λ (r : Reading). FitsReading names r) (from_start names (lines_of ending bytes))
-    (lines_fit names (not_joined NothingMore) (lines_of ending bytes) started) in
-    stopped_fits names (reading_of_lines names (lines_of ending bytes)) _ read
 
-outcome_fits : (names : List ProcessNames) (r : Reading) → FitsReading names r
+read_fits : (limit : ℕ) (names : List ProcessNames) (lines : List Line) (stop : Stop)
+    → FitsReading limit names (with_end stop (reading_of_lines limit names lines))
+read_fits limit names lines stop =
+    let read : FitsReading limit names (reading_of_lines limit names lines) =
+    subst (λ (r : Reading). FitsReading limit names r) (from_start limit names lines)
+    (lines_fit limit names (not_joined NothingMore) lines (started limit names)) in
+    stopped_fits limit names (reading_of_lines limit names lines) _ read
+
+outcome_fits : (limit : ℕ) (names : List ProcessNames) (r : Reading) → FitsReading limit names r
     → (stop : Stop) (joined : Option (ℕ × ℕ)) (trace : Trace) → r.joined ≡ joined → result_by_stop stop joined r.events
-    ≡ Some (Ok trace) → FitsSession names trace
-outcome_fits names r f (Fault number kind) joined trace e h = absurd (cc)
-outcome_fits names r f NothingMore joined trace e h = absurd (cc)
-outcome_fits names r f EndLine None trace e h = absurd (cc)
-outcome_fits names r f EndLine (Some (p, n)) trace e h =
+    ≡ Some (Ok trace) → FitsWithin limit names trace
+outcome_fits limit names r f (Fault number kind) joined trace e h = absurd (cc)
+outcome_fits limit names r f NothingMore joined trace e h = absurd (cc)
+outcome_fits limit names r f EndLine None trace e h = absurd (cc)
+outcome_fits limit names r f EndLine (Some (p, n)) trace e h =
     let same : record { process = p; join_line = n; events = r.events } ≡ trace = cc in
-    subst (λ (t : Trace). FitsSession names t) same (record {
+    subst (λ (t : Trace). FitsWithin limit names t) same (record {
       process_known = f.process_known p n e;
       few_events =
           f.few;
       events_fit = f.fit p n e;
     })
 
+pub lines_fit_within : LinesFit
+lines_fit_within limit names lines stop trace h =
+    let r : Reading = with_end stop (reading_of_lines limit names lines) in
+    outcome_fits limit names r (read_fits limit names lines stop) r.stop r.joined trace refl h
+
 pub traces_fit_lem : (names : List ProcessNames) (ending : Ending) (bytes : List ℕ) (trace : Trace)
     → result_of (reading names ending bytes) ≡ Some (Ok trace) → FitsSession names trace
 traces_fit_lem names ending bytes trace h =
-    let r = reading names ending bytes in
-    outcome_fits names (reading names ending bytes) (reading_fits names ending bytes) (reading names ending bytes).stop
-    (reading names ending bytes).joined trace refl h
+    lines_fit_within event_limit names (lines_of ending bytes) (stop_at_end ending bytes (frame_fault bytes)) trace h

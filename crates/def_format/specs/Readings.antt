@@ -38,20 +38,21 @@ stopped stop = record { events = []; stop = stop }
 abbrev pub with_first : Event → Course → Course
 with_first event later = record { events = event ∷ later.events; stop = later.stop }
 
--- a line's record, after this many events, and then the later lines
-abbrev pub course_from : ℕ → ℕ → Result LineRecord RecordFault → Course → Course
-course_from before number (Ok (Joins process)) later = stopped (Fault number (InRecord Join))
-course_from before number (Ok (Happens event)) later =
-    if nat_lt before event_limit then with_first event later else stopped (Fault number TooManyEvents)
-course_from before number (Ok Ends) later = stopped EndLine
-course_from before number (Err fault) later = stopped (Fault number (InRecord fault))
+-- A line's record, after this many events, and then the later lines, of a process that may have as many events as the
+-- limit says.
+abbrev pub course_from : (limit : ℕ) → ℕ → ℕ → Result LineRecord RecordFault → Course → Course
+course_from limit before number (Ok (Joins process)) later = stopped (Fault number (InRecord Join))
+course_from limit before number (Ok (Happens event)) later =
+    if nat_lt before limit then with_first event later else stopped (Fault number TooManyEvents)
+course_from limit before number (Ok Ends) later = stopped EndLine
+course_from limit before number (Err fault) later = stopped (Fault number (InRecord fault))
 
 -- the lines after the join of a process, after this many events
-abbrev pub course_of : List ProcessNames → ℕ → ℕ → List Line → Course
-course_of names process before [] = stopped NothingMore
-course_of names process before (line ∷ later) =
-    course_from before line.number (record_of names (Some process) line.bytes)
-    (course_of names process (suc before) later)
+abbrev pub course_of : (limit : ℕ) → List ProcessNames → ℕ → ℕ → List Line → Course
+course_of limit names process before [] = stopped NothingMore
+course_of limit names process before (line ∷ later) =
+    course_from limit before line.number (record_of names (Some process) line.bytes)
+    (course_of limit names process (suc before) later)
 
 -- the process with the line of its join, if it joined; its events; and why there are no more
 pub record Reading : Type 0 where
@@ -70,10 +71,12 @@ reading_from number (Ok (Happens event)) later = not_joined (Fault number (InRec
 reading_from number (Ok Ends) later = not_joined (Fault number (InRecord Join))
 reading_from number (Err fault) later = not_joined (Fault number (InRecord fault))
 
-abbrev pub reading_of_lines : List ProcessNames → List Line → Reading
-reading_of_lines names [] = not_joined NothingMore
-reading_of_lines names (first ∷ later) =
-    reading_from first.number (record_of names None first.bytes) (λ process. course_of names process 0 later)
+-- the reading of lines, if a process may have as many events as the limit says
+abbrev pub reading_of_lines : (limit : ℕ) → List ProcessNames → List Line → Reading
+reading_of_lines limit names [] = not_joined NothingMore
+reading_of_lines limit names (first ∷ later) =
+    reading_from first.number (record_of names None first.bytes)
+    (λ process. course_of limit names process 0 later)
 
 abbrev pub lines_of : Ending → List ℕ → List Line
 lines_of Open bytes = open_lines bytes
@@ -99,7 +102,7 @@ with_end stop reading = record { joined = reading.joined; events = reading.event
 -- the reading of a stream's bytes
 abbrev pub reading : List ProcessNames → Ending → List ℕ → Reading
 reading names ending bytes =
-    with_end (stop_at_end ending bytes (frame_fault bytes)) (reading_of_lines names (lines_of ending bytes))
+    with_end (stop_at_end ending bytes (frame_fault bytes)) (reading_of_lines event_limit names (lines_of ending bytes))
 
 -- ---- what is reported of a reading
 

@@ -18,7 +18,7 @@ ghost use Rattle.def_format.specs.LineLaws.{
   FeedIsFaulty,
   SoundFinishes,
 };
-ghost use Rattle.def_format.specs.ReadingLaws.{OpenIsSound, ReadingGoesOn, ReadingEnds, ReadingFails, TracesFit};
+ghost use Rattle.def_format.specs.ReadingLaws.{LinesAreRead, LinesFit, OpenIsSound, ReadingGoesOn, ReadingEnds, ReadingFails, TracesFit};
 ghost use Rattle.def_format.specs.HistoryLaws.{RunsAreDecided, LegalIsDecided, RowsAreRead, EventsNeverFall};
 ghost use Rattle.def_format.specs.Laws.{
   LinesGoOn,
@@ -106,6 +106,13 @@ pub fn readings_go_on()
     ensures batch { ReadingGoesOn }
     ensures end { ReadingEnds }
     ensures failure { ReadingFails }
+{}
+
+/// Lines are read one after another, and what they give fits the session's names, however many events a process may
+/// have.
+pub fn lines_are_read()
+    ensures read { LinesAreRead }
+    ensures fit { LinesFit }
 {}
 
 /// Each trace that a stream gives fits the session's names.

@@ -9,6 +9,7 @@ use Rattle.def_format.specs.Lines.{Line, FrameFault, frame_fault}
 use Rattle.def_format.specs.Lines as lines
 use Rattle.def_format.specs.Names.{ProcessNames}
 use Rattle.def_format.specs.Records.{RecordFault, LineRecord, Joins, Happens, Ends, record_of}
+use Rattle.def_format.specs.Limits.{event_limit}
 use Rattle.def_format.specs.Readings.{Ending, Open, Ended, Failed, Stop, NothingMore, EndLine, Fault, Course, course_of, Reading, reading_from, reading_of_lines, lines_of, stop_at_end, stop_or, reading, IsClosed, by_end_line, by_fault, result_by_stop, result_of}
 use Rattle.def_format.specs.Sessions.{StreamResult}
 use Rattle.def_judgement.specs.Judgements.{RawStream, ended_streams, IsResultOf, AreResultsOf}
@@ -31,11 +32,13 @@ joined_at_end number (Ok (Happens event)) later e = cc
 joined_at_end number (Ok Ends) later e = cc
 joined_at_end number (Err fault) later e = cc
 
-lines_joined_at_end : (names : List ProcessNames) (all : List Line) → (reading_of_lines names all).stop ≡ EndLine
-    → (joined : ℕ × ℕ) × ((reading_of_lines names all).joined ≡ Some joined)
+lines_joined_at_end : (names : List ProcessNames) (all : List Line)
+    → (reading_of_lines event_limit names all).stop ≡ EndLine
+    → (joined : ℕ × ℕ) × ((reading_of_lines event_limit names all).joined ≡ Some joined)
 lines_joined_at_end names [] e = cc
 lines_joined_at_end names (first ∷ later) e =
-    joined_at_end first.number (record_of names None first.bytes) (λ process. course_of names process 0 later) e
+    joined_at_end first.number (record_of names None first.bytes)
+    (λ process. course_of event_limit names process 0 later) e
 
 no_end_line : (ending : Ending) (bytes : List ℕ) (fault : Option FrameFault) → stop_at_end ending bytes fault ≢ EndLine
 no_end_line ending bytes (Some (lines.LineTooLong number)) e = cc
@@ -62,7 +65,7 @@ pub closed_gives : (names : List ProcessNames) (ending : Ending) (bytes : List �
     → IsClosed (reading names ending bytes).stop
     → (result : StreamResult) × (result_of (reading names ending bytes) ≡ Some result)
 closed_gives names ending bytes closed =
-    let whole : Reading = reading_of_lines names (lines_of ending bytes) in
+    let whole : Reading = reading_of_lines event_limit names (lines_of ending bytes) in
     stop_gives whole.stop (stop_at_end ending bytes (frame_fault bytes)) whole.joined whole.events
     (lines_joined_at_end names (lines_of ending bytes)) (no_end_line ending bytes (frame_fault bytes)) closed
 
@@ -83,7 +86,8 @@ closes_after (Fault number kind) end closed = by_fault
 pub ended_closed : (names : List ProcessNames) (ending : Ending) (bytes : List ℕ) → ending ≢ Open
     → IsClosed (reading names ending bytes).stop
 ended_closed names ending bytes ended =
-    closes_after (reading_of_lines names (lines_of ending bytes)).stop (stop_at_end ending bytes (frame_fault bytes))
+    closes_after (reading_of_lines event_limit names (lines_of ending bytes)).stop (stop_at_end ending bytes
+    (frame_fault bytes))
     (end_closes ending bytes (frame_fault bytes) ended)
 
 -- ---- all streams

@@ -19,19 +19,19 @@ record HasLines (names : List ProcessNames) (process : ℕ) (events : List Event
   recorded : AllZip (Records names process) events own
 
 course_lines : (names : List ProcessNames) (process before : ℕ) (lines : List Line)
-    → (course_of names process before lines).stop ≡ EndLine
-    → HasLines names process (course_of names process before lines).events lines
+    → (course_of event_limit names process before lines).stop ≡ EndLine
+    → HasLines names process (course_of event_limit names process before lines).events lines
 course_lines names process before [] ended = absurd (cc ended)
 course_lines names process before (first ∷ later) ended =
     go (record_of names (Some process) first.bytes) refl (course_lines names process (suc before) later) ended
   where
     rest : Course
-    rest = course_of names process (suc before) later
+    rest = course_of event_limit names process (suc before) later
 
     go : (r : Result LineRecord RecordFault) → record_of names (Some process) first.bytes ≡ r
         → (rest.stop ≡ EndLine → HasLines names process rest.events later)
-        → (course_from before first.number r rest).stop ≡ EndLine
-        → HasLines names process (course_from before first.number r rest).events (first ∷ later)
+        → (course_from event_limit before first.number r rest).stop ≡ EndLine
+        → HasLines names process (course_from event_limit before first.number r rest).events (first ∷ later)
     go (Ok (Joins p)) is more ended = absurd (cc ended)
     go (Ok (Happens event)) is more ended = pick (nat_lt before event_limit) ended
       where
@@ -94,8 +94,8 @@ process_in None = 0
 process_in (Some joined) = joined.0
 
 lines_recorded : (names : List ProcessNames) (lines : List Line) (trace : Trace)
-    → Gives (reading_of_lines names lines).stop (reading_of_lines names lines).joined
-    (reading_of_lines names lines).events trace
+    → Gives (reading_of_lines event_limit names lines).stop (reading_of_lines event_limit names lines).joined
+    (reading_of_lines event_limit names lines).events trace
     → (join : Line) × (own : List Line) × (others : List Line) × (lines ≡ join ∷ (own ++ others))
     × (record_of names None join.bytes ≡ Ok (Joins trace.process))
     × AllZip (Records names trace.process) trace.events own
@@ -104,7 +104,7 @@ lines_recorded names [] trace given = absurd (cc given.ended)
 lines_recorded names (first ∷ later) trace given = go (record_of names None first.bytes) refl given
   where
     courses : ℕ → Course
-    courses = λ process. course_of names process 0 later
+    courses = λ process. course_of event_limit names process 0 later
 
     Found : Type 0
     Found = (join : Line) × (own : List Line) × (others : List Line) × (first ∷ later ≡ join ∷ (own ++ others))
@@ -132,7 +132,7 @@ lines_recorded names (first ∷ later) trace given = go (record_of names None fi
 
 pub events_recorded : EventsAreRecorded
 events_recorded names bytes trace is =
-    let read : Reading = reading_of_lines names (finished_lines bytes) in
+    let read : Reading = reading_of_lines event_limit names (finished_lines bytes) in
     let found = lines_recorded names (finished_lines bytes) trace
     (gives read.stop (stop_at_end Ended bytes (frame_fault bytes)) read.joined read.events trace
     (not_the_end bytes (frame_fault bytes)) is) in

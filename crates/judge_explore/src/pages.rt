@@ -4,11 +4,12 @@ ghost use Rattle.judge_explore.specs.FileViews.{files_view};
 ghost use Rattle.judge_explore.specs.Forms.{form_view};
 ghost use Rattle.judge_explore.specs.Known.{known_by};
 ghost use Rattle.def_format.specs.Reports as reports;
+ghost use Rattle.def_format.specs.Sessions as sessions;
 ghost use Rattle.def_format.specs.Reports.{Refused};
 ghost use Rattle.out_json.specs.JsonReports.{json_text, json_text_at};
 ghost use Rattle.pd_engine.specs.Ends.{IsGiven};
-ghost use Rattle.pd_gather.specs.Views.{traces_view};
-ghost use Rattle.def_judgement.specs.Judgements.{IsTracesReport};
+ghost use Rattle.pd_gather.specs.Views.{ReadingFits, results_view, traces_view};
+ghost use Rattle.def_judgement.specs.Judgements.{IsReportOfResults, IsTracesReport};
 ghost use Rattle.pd_match.specs.Views.{pairs_view};
 ghost use Rattle.def_model.specs.Cuts.{total};
 ghost use Rattle.def_model.specs.Messages.{IsMessageList};
@@ -36,7 +37,7 @@ use out_page::{Content, Extras, Outcome, Source, text};
 use pd_clock::Computation;
 use pd_engine::answers_of;
 use pd_expand::Crew;
-use pd_gather::{ByteSource, Observer, read_streams_watched};
+use pd_gather::{ByteSource, Gathered, Observer, read_streams_watched};
 use pd_level::Gate;
 use pd_match::Place;
 use pd_report::{Answer, Refusal, Report};
@@ -299,6 +300,22 @@ fn page_of_traces<S: RandomSource + Threads + Wait + Sync, G: Gate + Sync>(
     }
 }
 
+/// The traces of a session's streams, which fit its document as the readings do, or the refusal of the streams.
+fn fitting_traces(alloc: Global, spec: &Spec, gathered: Gathered) -> Result<Vec<Trace>, Unanswered>
+    requires { All (ReadingFits (document_view spec.now).names) gathered.readings.items }
+    ensures joined { IfOk result (λ traces.
+        sessions.session (document_view spec.now).names gathered.streams (results_view gathered.readings.items)
+        ≡ Ok (traces_view traces.items)) }
+    ensures fit { IfOk result (λ traces. AreTraces (document_view spec.now).names traces.items) }
+    ensures refused { IfErr result (IsUnanswered (IsReportOfResults (document_view spec.now) gathered.streams
+        (results_view gathered.readings.items))) }
+{
+    match traces_of(alloc, spec, gathered) {
+        Ok(traces) => Ok(traces),
+        Err(unanswered) => Err(unanswered),
+    }
+}
+
 /// The page or the object of the session of an inquiry's document and of what the streams' readers give, with where
 /// their events were recorded by these files, or why it comes to none. The observer, if there is one, watches while the
 /// streams are read.
@@ -324,7 +341,7 @@ pub(crate) fn page_of_session<
 {
     let spec = read_inquiry(alloc, inquiry)?;
     let gathered = read_streams_watched(crew.runtime(), alloc, &spec, readers, observer)?;
-    let traces = traces_of(alloc, &spec, gathered)?;
+    let traces = fitting_traces(alloc, &spec, gathered)?;
     let sources = sources_of(alloc, &spec, files, &traces)?;
     page_of_traces(crew, alloc, &spec, form, &sources, &traces)
 }

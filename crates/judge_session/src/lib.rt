@@ -25,7 +25,7 @@ mod sessions;
 mod snapshots;
 mod unanswered;
 
-pub use computations::{build, computation_of, messages_of};
+pub use computations::{build, computation_of, cycle_refusal, messages_of};
 pub use document::{read_document, read_inquiry};
 pub use fault::EngineFault;
 pub use input::read_upto;

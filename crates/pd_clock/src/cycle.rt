@@ -14,7 +14,7 @@ use std::alloc::{AllocError, Global};
 
 /// The cycle that is reported, if there is one: `done` has for each process how many of its first events are not stuck
 /// on a causal cycle or after one.
-pub(crate) fn reported_cycle(
+pub fn reported_cycle(
     alloc: Global,
     traces: &[Trace],
     matched: &Matched,

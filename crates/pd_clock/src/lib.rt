@@ -31,6 +31,8 @@ mod state;
 
 pub use computation::Computation;
 pub use cut::Cut;
+pub use cycle::reported_cycle;
 pub use fault::BuildFault;
+pub use order::next_that_can_go;
 pub use pd_match::Place;
 pub use state::State;

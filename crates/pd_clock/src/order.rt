@@ -78,7 +78,12 @@ fn first_that_can_go(
 
 /// A process whose next event can stand in the order, if there is one: `last` if it can, so that a run of events of one
 /// process is short work.
-fn next_that_can_go(traces: &[Trace], matched: &Matched, done: &[u64], last: usize) -> Option<usize>
+pub fn next_that_can_go(
+    traces: &[Trace],
+    matched: &Matched,
+    done: &[u64],
+    last: usize,
+) -> Option<usize>
     requires within { last ≤ length traces.now }
     requires ordered { IsOrdered (computation_view traces.now) done.now }
     requires messages { IsMessageList (computation_view traces.now) matched.now }

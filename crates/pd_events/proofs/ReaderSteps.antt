@@ -6,6 +6,7 @@ use Rattle.def_format.specs.LineLaws.{PartGoesOn, PartIsFaulty}
 use Rattle.def_format.specs.Laws.{ClosedStays}
 use Rattle.def_format.specs.ReadingLaws.{OpenIsSound, ReadingGoesOn, ReadingEnds, ReadingFails, stopped_by, read_on}
 use Rattle.def_format.specs.Names.{ProcessNames}
+use Rattle.def_format.specs.Limits.{event_limit}
 use Rattle.def_format.specs.Readings.{Ending, Open, Ended, Failed, Stop, NothingMore, EndLine, Fault, StreamKind, Unended, ReadFailed, IsClosed, by_end_line, by_fault, Reading, stop_at_end, stop_or, with_end, reading}
 use Rattle.pd_frames.specs.State.{State, Stands, line_to_come}
 use Rattle.pd_frames.specs.Views.{frame_faults_view}
@@ -55,7 +56,8 @@ same_stop bytes (Some (reported.StreamTooLong line)) = refl
 pub fed : ReadingGoesOn → (old : ReaderState) (framer : State) (names : List ProcessNames) (bytes piece : List ℕ)
     (lines : List Line) (fault : Option Reported) (new : Reading) → Reads old names Open bytes
     → old.reading.stop ≡ NothingMore → IsBatch bytes piece lines (frame_faults_view fault)
-    → Stands framer (bytes ++ piece) false → new ≡ with_end (stop_of_frame fault) (read_on old.names old.reading lines)
+    → Stands framer (bytes ++ piece) false
+    → new ≡ with_end (stop_of_frame fault) (read_on event_limit old.names old.reading lines)
     → Reads (record { names = old.names; framer = framer; reading = new }) names Open (bytes ++ piece)
 fed goes_on old framer names bytes piece lines fault new r e batch stands is = record {
   same_names = r.same_names;
@@ -96,7 +98,7 @@ pub ended : OpenIsSound → ReadingEnds
     → (old : ReaderState) (framer : State) (names : List ProcessNames) (bytes : List ℕ) (lines : List Line) (number : ℕ)
     (new : Reading) → Reads old names Open bytes → old.reading.stop ≡ NothingMore
     → finished_lines bytes ≡ open_lines bytes ++ lines → number ≡ line_to_come bytes true
-    → new ≡ with_end (Fault number Unended) (read_on old.names old.reading lines)
+    → new ≡ with_end (Fault number Unended) (read_on event_limit old.names old.reading lines)
     → Reads (record { names = old.names; framer = framer; reading = new }) names Ended bytes
 ended sound ends old framer names bytes lines number new r e all at is = record {
   same_names = r.same_names;
@@ -106,7 +108,8 @@ ended sound ends old framer names bytes lines number new r e all at is = record 
         r.same_names,
         r.same_reading,
       ) (sym (ends names bytes lines (open_stop old names bytes r e) all)));
-  framed = λ no. absurd (not_open new.stop (ends_closed new.stop (read_on old.names old.reading lines).stop number
+  framed = λ no. absurd (not_open new.stop (ends_closed new.stop
+      (read_on event_limit old.names old.reading lines).stop number
       Unended (ap (λ (x : Reading). x.stop) is)) no);
 }
 

@@ -27,5 +27,6 @@ mod statement;
 
 pub use fault::{RecordFault, StreamFault, StreamKind, StreamState};
 pub use line_record::LineRecord;
+pub use progress::{Join, Phase, Progress};
 pub use reader::TraceReader;
 pub use record::read_record;

@@ -17,7 +17,7 @@ use super::plain::plain_event;
 use super::record::read_record;
 use super::room::Room;
 use super::{LineRecord, RecordFault, StreamFault, StreamKind};
-use def_format::{EVENT_LIMIT, ID_BYTE_LIMIT};
+use def_format::ID_BYTE_LIMIT;
 use pd_frames::Line;
 use pd_pred::Names;
 use pd_spec::Spec;
@@ -101,6 +101,7 @@ pub(crate) fn kind_of(fault: RecordFault) -> Option<StreamKind>
 
 /// Adds an event after the join, unless there are as many as a stream may have.
 fn add_event(
+    limit: usize,
     join: Join,
     events: &mut Events,
     number: u64,
@@ -108,11 +109,11 @@ fn add_event(
     sets: &[(usize, i64)],
 ) -> Result<Phase, AllocError>
     ensures after { IfOk result (λ phase. reading_view phase events.new
-        ≡ after_record (Some (join_view join)) (open_reading (Some (join_view join)) events.old)
+        ≡ after_record limit (Some (join_view join)) (open_reading (Some (join_view join)) events.old)
         number (Ok (Happens (event_with (seen_kind_view kind.entry) sets.now)))) }
     ensures keeps { take (length events.old) events.new ≡ events.old }
 {
-    if events.len() >= EVENT_LIMIT {
+    if events.len() >= limit {
         return Ok(Phase::Faulted(
             Some(join),
             StreamFault {
@@ -127,13 +128,14 @@ fn add_event(
 
 /// Takes a record. An event is added to those of the stream.
 fn take_record(
+    limit: usize,
     joined: Option<Join>,
     events: &mut Events,
     number: u64,
     given: LineRecord,
 ) -> Result<Phase, AllocError>
     ensures after { IfOk result (λ phase. reading_view phase events.new
-        ≡ after_record (joined_view joined) (open_reading (joined_view joined) events.old)
+        ≡ after_record limit (joined_view joined) (open_reading (joined_view joined) events.old)
         number (Ok (record_view given))) }
     ensures keeps { take (length events.old) events.new ≡ events.old }
 {
@@ -146,7 +148,7 @@ fn take_record(
         (None, LineRecord::Happened(_) | LineRecord::Finish) => Ok(fault(StreamKind::Join)),
         (Some(_), LineRecord::Join(_)) => Ok(fault(StreamKind::Join)),
         (Some(join), LineRecord::Happened(event)) => {
-            add_event(join, events, number, seen(&event.kind), &event.sets)
+            add_event(limit, join, events, number, seen(&event.kind), &event.sets)
         }
         (Some(join), LineRecord::Finish) => Ok(Phase::Ended(join)),
     }
@@ -164,6 +166,7 @@ fn has_fitting_id(kind: Kind<'_>) -> bool
 
 /// Takes the event of this kind that a line of the plain shape says, or the fault of its id.
 fn take_kind(
+    limit: usize,
     join: Join,
     events: &mut Events,
     number: u64,
@@ -171,7 +174,7 @@ fn take_kind(
     sets: &[(usize, i64)],
 ) -> Result<Phase, AllocError>
     ensures after { IfOk result (λ phase. reading_view phase events.new
-        ≡ after_record (Some (join_view join)) (open_reading (Some (join_view join)) events.old)
+        ≡ after_record limit (Some (join_view join)) (open_reading (Some (join_view join)) events.old)
         number (event_due (seen_kind_view kind.entry) sets.now)) }
     ensures keeps { take (length events.old) events.new ≡ events.old }
 {
@@ -184,11 +187,12 @@ fn take_kind(
             },
         ));
     }
-    add_event(join, events, number, kind, sets)
+    add_event(limit, join, events, number, kind, sets)
 }
 
 /// Takes a line after the join, if it has the plain shape.
 fn take_plain(
+    limit: usize,
     names: &Names,
     room: &mut Room,
     join: Join,
@@ -196,7 +200,7 @@ fn take_plain(
     line: &Line<'_>,
 ) -> Result<Option<Phase>, AllocError>
     ensures after { IfOk result (λ found. IfSome found (λ after. reading_view after events.new
-        ≡ read_line names.now (open_reading (Some (join_view join)) events.old) (line_view line.now))) }
+        ≡ read_line limit names.now (open_reading (Some (join_view join)) events.old) (line_view line.now))) }
     ensures not_plain { IfOk result (λ found. IfNone found (events.new ≡ events.old)) }
     ensures keeps { take (length events.old) events.new ≡ events.old }
 {
@@ -204,7 +208,7 @@ fn take_plain(
     let Some(kind) = found else {
         return Ok(None);
     };
-    let after = take_kind(join, events, line.number, kind, &room.sets)?;
+    let after = take_kind(limit, join, events, line.number, kind, &room.sets)?;
     Ok(Some(after))
 }
 
@@ -212,18 +216,19 @@ fn take_plain(
 fn take_value(
     alloc: Global,
     spec: &Spec,
+    limit: usize,
     joined: Option<Join>,
     events: &mut Events,
     line: &Line<'_>,
 ) -> Result<Phase, AllocError>
     ensures after { IfOk result (λ after. reading_view after events.new
-        ≡ read_line (document_view spec.now).names (open_reading (joined_view joined) events.old)
+        ≡ read_line limit (document_view spec.now).names (open_reading (joined_view joined) events.old)
         (line_view line.now)) }
     ensures keeps { take (length events.old) events.new ≡ events.old }
 {
     let process = joined.map(|join| join.process);
     match read_record(alloc, spec, process, line.bytes.as_slice()) {
-        Ok(record) => take_record(joined, events, line.number, record),
+        Ok(record) => take_record(limit, joined, events, line.number, record),
         Err(fault) => {
             let kind = kind_of(fault).ok_or(AllocError)?;
             Ok(Phase::Faulted(
@@ -241,6 +246,7 @@ fn take_value(
 fn take_line(
     alloc: Global,
     spec: &Spec,
+    limit: usize,
     room: &mut Room,
     phase: Phase,
     events: &mut Events,
@@ -248,18 +254,18 @@ fn take_line(
 ) -> Result<Phase, AllocError>
     ensures after { IfOk result (λ after. reading_view after events.new
         ≡ unless_stopped (stop_of phase) (reading_view phase events.old)
-        (read_line (document_view spec.now).names (reading_view phase events.old) (line_view line.now))) }
+        (read_line limit (document_view spec.now).names (reading_view phase events.old) (line_view line.now))) }
     ensures keeps { take (length events.old) events.new ≡ events.old }
 {
     if phase.is_closed() {
         return Ok(phase);
     }
     if let Phase::Joined(join) = phase {
-        if let Some(after) = take_plain(spec.names(), room, join, events, line)? {
+        if let Some(after) = take_plain(limit, spec.names(), room, join, events, line)? {
             return Ok(after);
         }
     }
-    take_value(alloc, spec, phase.join(), events, line)
+    take_value(alloc, spec, limit, phase.join(), events, line)
 }
 
 /// Takes these lines, from this phase on. If memory runs out, the events have some of theirs after those that they
@@ -267,18 +273,19 @@ fn take_line(
 fn take_each(
     alloc: Global,
     spec: &Spec,
+    limit: usize,
     start: Phase,
     events: &mut Events,
     lines: &[Line<'_>],
 ) -> Result<Phase, AllocError>
     ensures after { IfOk result (λ after. reading_view after events.new
-        ≡ read_on (document_view spec.now).names (reading_view start events.old) (lines_view lines.now)) }
+        ≡ read_on limit (document_view spec.now).names (reading_view start events.old) (lines_view lines.now)) }
     ensures keeps { take (length events.old) events.new ≡ events.old }
 {
     let mut phase = start;
     let mut room = Room::new(alloc);
     for line in lines {
-        phase = take_line(alloc, spec, &mut room, phase, events, line)?;
+        phase = take_line(alloc, spec, limit, &mut room, phase, events, line)?;
     }
     Ok(phase)
 }
@@ -293,7 +300,8 @@ pub struct Progress {
 }
 
 impl Progress {
-    /// Takes these lines, and the fault after them, if there is one.
+    /// Takes these lines, and the fault after them, if there is one. The process may have as many events as the limit
+    /// says.
     ///
     /// # Errors
     /// If memory runs out; the progress is then as it was.
@@ -301,18 +309,19 @@ impl Progress {
         &mut self,
         alloc: Global,
         spec: &Spec,
+        limit: usize,
         lines: &[Line<'_>],
         following: Option<StreamFault>,
     ) -> Result<(), AllocError>
         ensures ok { OnOk result (reading_view self.new.phase self.new.events
             ≡ with_end (stop_of_fault following)
-            (read_on (document_view spec.now).names (reading_view self.old.phase self.old.events)
+            (read_on limit (document_view spec.now).names (reading_view self.old.phase self.old.events)
             (lines_view lines.now))) }
         ensures err { OnErr result (reading_view self.new.phase self.new.events
             ≡ reading_view self.old.phase self.old.events) }
     {
         let kept = self.events.len();
-        match take_each(alloc, spec, self.phase, &mut self.events, lines) {
+        match take_each(alloc, spec, limit, self.phase, &mut self.events, lines) {
             Ok(phase) => {
                 self.phase = phase.with_fault(following);
                 Ok(())

@@ -13,6 +13,7 @@ ghost use Rattle.pd_events.specs.Views.{result_view, state_view};
 
 use super::progress::{Phase, Progress};
 use super::{StreamFault, StreamKind, StreamState};
+use def_format::EVENT_LIMIT;
 use pd_frames::{FrameFault, Framer, has_line_feed};
 use pd_spec::Spec;
 use read_traces::{Events, Trace};
@@ -146,7 +147,13 @@ impl<'spec> TraceReader<'spec> {
         }
         let mut framer = self.framer.copy()?;
         let batch = framer.feed(piece)?;
-        self.progress.take_lines(self.alloc, self.spec, &batch.lines, faults_of(batch.fault))?;
+        self.progress.take_lines(
+            self.alloc,
+            self.spec,
+            EVENT_LIMIT,
+            &batch.lines,
+            faults_of(batch.fault),
+        )?;
         self.framer = framer;
         Ok(())
     }
@@ -190,8 +197,13 @@ impl<'spec> TraceReader<'spec> {
             line: framer.line(),
             kind: StreamKind::Unended,
         };
-        self.progress
-            .take_lines(self.alloc, self.spec, &batch.lines, Some(unended))?;
+        self.progress.take_lines(
+            self.alloc,
+            self.spec,
+            EVENT_LIMIT,
+            &batch.lines,
+            Some(unended),
+        )?;
         self.framer = framer;
         Ok(())
     }

@@ -34,17 +34,17 @@ record IsAfter (joined : Option (ℕ × ℕ)) (events : List Event) (new : Readi
 abbrev Later : List ProcessNames → List Line → Type 0
 Later names ls = (joined : Option (ℕ × ℕ)) (events : List Event) (stop : Stop)
     → HasStreamRow (reading_with joined events stop)
-    → IsAfter joined events (read_on names (reading_with joined events stop) ls)
+    → IsAfter joined events (read_on event_limit names (reading_with joined events stop) ls)
 
 first_joins : (names : List ProcessNames) (ls : List Line) → Later names ls → (events : List Event) (j : ℕ × ℕ)
-    → length events ≡ 0 → IsAfter None events (read_on names (reading_with (Some j) events NothingMore) ls)
+    → length events ≡ 0 → IsAfter None events (read_on event_limit names (reading_with (Some j) events NothingMore) ls)
 first_joins names ls later events j none =
     let after = later (Some j) events NothingMore (omega (arith, none)) in
     record { row = after.row; kept = λ k e. cc; grows = after.grows }
 
 before_join : (names : List ProcessNames) (ls : List Line) → Later names ls → (events : List Event) → length events ≡ 0
     → (number : ℕ) (r : Result LineRecord RecordFault) → IsAfter None events
-    (read_on names (after_record None (reading_with None events NothingMore) number r) ls)
+    (read_on event_limit names (after_record event_limit None (reading_with None events NothingMore) number r) ls)
 before_join names ls later events none number (Ok (Joins process)) =
     first_joins names ls later events (process, number) none
 before_join names ls later events none number (Ok (Happens event)) =
@@ -54,7 +54,8 @@ before_join names ls later events none number (Err fault) = later None events (F
 
 one_event : (names : List ProcessNames) (ls : List Line) → Later names ls → (events : List Event) (j : ℕ × ℕ)
     (number : ℕ) (event : Event) → length events ≤ event_limit → (b : Bool) → nat_lt (length events) event_limit ≡ b
-    → IsAfter (Some j) events (read_on names (cond b (reading_with (Some j) (events ++ event ∷ []) NothingMore)
+    → IsAfter (Some j) events (read_on event_limit names (cond b (reading_with (Some j)
+    (events ++ event ∷ []) NothingMore)
     (reading_with (Some j) events (Fault number TooManyEvents))) ls)
 one_event names ls later events j number event few true e =
     let long : length (events ++ event ∷ []) ≡ length events + 1 = length-append events (event ∷ []) in
@@ -66,7 +67,8 @@ one_event names ls later events j number event few false e =
 
 after_join : (names : List ProcessNames) (ls : List Line) → Later names ls → (events : List Event) (j : ℕ × ℕ)
     → length events ≤ event_limit → (number : ℕ) (r : Result LineRecord RecordFault) → IsAfter (Some j) events
-    (read_on names (after_record (Some j) (reading_with (Some j) events NothingMore) number r) ls)
+    (read_on event_limit names (after_record event_limit (Some j) (reading_with
+    (Some j) events NothingMore) number r) ls)
 after_join names ls later events j few number (Ok (Joins process)) =
     later (Some j) events (Fault number (InRecord Join)) few
 after_join names ls later events j few number (Ok (Happens event)) =
@@ -107,9 +109,9 @@ no_end_line Failed bytes None e = cc
 reading_has_row : (names : List ProcessNames) (ending : Ending) (bytes : List ℕ)
     → HasStreamRow (reading names ending bytes)
 reading_has_row names ending bytes =
-    let r : Reading = reading_of_lines names (lines_of ending bytes) in
+    let r : Reading = reading_of_lines event_limit names (lines_of ending bytes) in
     let has : HasStreamRow r =
-    subst HasStreamRow (from_start names (lines_of ending bytes))
+    subst HasStreamRow (from_start event_limit names (lines_of ending bytes))
     (lines_later names (lines_of ending bytes) None [] NothingMore refl).row in
     ends_later r.stop (stop_at_end ending bytes (frame_fault bytes)) r.joined r.events
     (no_end_line ending bytes (frame_fault bytes)) has
@@ -128,14 +130,16 @@ goes_on_to (Some j) events new has after = record {
 }
 
 lines_go_on_to : (names : List ProcessNames) (r : Reading) (ls : List Line) (end : Stop) → r.stop ≡ NothingMore
-    → HasStreamRow r → end ≢ EndLine → GoesOnTo (row_of_reading r) (row_of_reading (with_end end (read_on names r ls)))
+    → HasStreamRow r → end ≢ EndLine
+    → GoesOnTo (row_of_reading r) (row_of_reading (with_end end (read_on event_limit names r ls)))
 lines_go_on_to names r ls end open' has other =
     let same : reading_with r.joined r.events NothingMore ≡ r =
     ap (λ (stop : Stop). reading_with r.joined r.events stop) (sym open') in
     let here : HasStreamRow (reading_with r.joined r.events NothingMore) = subst HasStreamRow (sym same) has in
     let after = lines_later names ls r.joined r.events NothingMore here in
-    let new : Reading = read_on names (reading_with r.joined r.events NothingMore) ls in
-    subst (λ (x : Reading). GoesOnTo (row_of_reading x) (row_of_reading (with_end end (read_on names x ls)))) same
+    let new : Reading = read_on event_limit names (reading_with r.joined r.events NothingMore) ls in
+    subst (λ (x : Reading). GoesOnTo (row_of_reading x) (row_of_reading (with_end end
+    (read_on event_limit names x ls)))) same
     (goes_on_to r.joined r.events (with_end end new) here
     (record {
       row = ends_later new.stop end new.joined new.events other after.row;

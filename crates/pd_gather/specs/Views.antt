@@ -3,7 +3,8 @@ use Rattle.std.specs.Prelude.{◌≡◌, ℕ, Bool, false, ◌==◌, List, map, 
 use Rattle.std.specs.Global.{Global}
 use Rattle.def_format.specs.Names.{ProcessNames}
 use Rattle.def_format.specs.Readings as readings
-use Rattle.def_format.specs.ReadingLaws.{FitsSession}
+use Rattle.def_format.specs.Limits.{event_limit}
+use Rattle.def_format.specs.ReadingLaws.{FitsWithin}
 use Rattle.def_format.specs.Sessions as sessions
 use Rattle.read_traces.specs.Views.{trace_view}
 use Rattle.pd_events.specs.Views.{result_view, stream_fault_view}
@@ -45,6 +46,10 @@ IsSession due answer =
     MatchResult answer (λ traces. due ≡ Ok (traces_view traces.items)) (λ fault.
     MatchOption (session_fault_view fault) (Unit {0}) (λ f. due ≡ Err f))
 
--- what a stream gave fits the session's names
+-- what a stream gave fits the session's names, and has at most as many events as the limit says
+abbrev pub ReadingFitsWithin : (limit : ℕ) → List ProcessNames → Result Trace StreamFault → Type 0
+ReadingFitsWithin limit names given = IfOk given (λ trace. FitsWithin limit names (trace_view trace))
+
+-- the same within the limit of a session
 abbrev pub ReadingFits : List ProcessNames → Result Trace StreamFault → Type 0
-ReadingFits names given = IfOk given (λ trace. FitsSession names (trace_view trace))
+ReadingFits names given = ReadingFitsWithin event_limit names given

@@ -1,6 +1,5 @@
 //! Reads a source up to a limit.
 ghost use Rattle.std.specs.Prelude.{◌≡◌, ◌≢◌, ◌+◌, ◌≤◌, ◌<◌, ◌++◌, true, false, List, [], ℕ, Some, Err, length, take, IfOk, IfSome, IsOkUnless, OnErr, vec_len};
-ghost use Rattle.def_format.specs.Limits.{report_byte_limit};
 ghost use Rattle.def_judgement.specs.Writes.{FailsAfter};
 ghost use Rattle.pd_gather.specs.declared.read_fault.ReadFault.{ReadFault};
 ghost use Rattle.std.specs.Io.KnownBytes.{Consumes, IsAtEnd};
@@ -56,7 +55,7 @@ pub fn read_bytes<R: ByteSource + Drop>(
     limit: usize,
 ) -> Result<Vec<u8>, ReadFault>
     requires open { R.has_ended reader ≡ false }
-    requires few { limit ≤ report_byte_limit }
+    requires few { limit < 9223372036854775807 }
     ensures within { IfOk result (λ bytes. vec_len bytes ≤ limit + 1) }
     ensures prefix { IfOk result (λ bytes. IfSome (R.left reader).bytes (λ input.
         bytes.items ≡ take (limit + 1) input)) }

@@ -1,12 +1,12 @@
 //! The traces of a session.
-ghost use Rattle.read_traces.specs.SessionTraces.{AreTraces};
+ghost use Rattle.read_traces.specs.SessionTraces.{AreTracesWithin};
 ghost use Rattle.read_traces.specs.Views.{trace_view};
 ghost use Rattle.pd_events.specs.Views.{result_view};
 ghost use Rattle.def_format.specs.Limits.{stream_count_limit};
 ghost use Rattle.def_format.specs.Names.{ProcessNames};
-ghost use Rattle.def_format.specs.ReadingLaws.{FitsSession};
+ghost use Rattle.def_format.specs.ReadingLaws.{FitsWithin};
 ghost use Rattle.def_format.specs.Sessions as sessions;
-ghost use Rattle.pd_gather.specs.Views.{IsSession, ReadingFits, is_trace_of, results_view, session_fault_view, traces_view};
+ghost use Rattle.pd_gather.specs.Views.{IsSession, ReadingFitsWithin, is_trace_of, results_view, session_fault_view, traces_view};
 ghost use Rattle.pd_spec.specs.Views.{document_view};
 ghost use Rattle.std.specs.List.{list_any, position};
 ghost use Rattle.std.specs.Prelude.{◌≡◌, ◌<◌, ℕ, [], List, All, IfOk, IfSome, IsOk, MatchOption, Some, Ok, Err, option_map};
@@ -19,20 +19,21 @@ use pd_spec::Spec;
 use read_traces::Trace;
 use std::alloc::{AllocError, Global};
 
-/// The traces of a session with this document, one for each process, in their order. Memory is taken for the traces
-/// alone: each refusal is found without.
+/// The traces of a session with this document, one for each process, in their order, with any number of events each.
+/// Memory is taken for the traces alone: each refusal is found without.
 ///
 /// # Errors
 /// The first refusal: too many streams; then, of the first stream that has one, its fault or that its process is taken;
 /// then the first process that no stream joined. Also if memory runs out.
 pub fn session(alloc: Global, spec: &Spec, gathered: Gathered) -> Result<Vec<Trace>, SessionFault>
-    requires { All (ReadingFits (document_view spec.now).names) gathered.readings.items }
     ensures exact { IsSession (sessions.session (document_view spec.now).names gathered.streams
         (results_view gathered.readings.items)) result }
     ensures many { stream_count_limit < gathered.streams → result ≡ Err SessionFault.Streams }
     ensures memory { result ≡ Err SessionFault.Memory →
         IsOk (sessions.session (document_view spec.now).names gathered.streams (results_view gathered.readings.items)) }
-    ensures fits { IfOk result (λ traces. AreTraces (document_view spec.now).names traces.items) }
+    ensures fits { IfOk result (λ traces. (limit : ℕ)
+        → All (ReadingFitsWithin limit (document_view spec.now).names) gathered.readings.items
+        → AreTracesWithin limit (document_view spec.now).names traces.items) }
 {
     if gathered.streams > STREAM_COUNT_LIMIT as u64 {
         return Err(SessionFault::Streams);
@@ -118,11 +119,11 @@ fn in_order(
     names: &Names,
     mut readings: Vec<Result<Trace, StreamFault>>,
 ) -> Result<Vec<Trace>, AllocError>
-    requires fit { All (ReadingFits names.now) readings.items }
     requires complete { IsOk (sessions.traces_from 0 names.now (results_view readings.items)) }
     ensures exact { IfOk result (λ traces. sessions.traces_from 0 names.now (results_view readings.items)
         ≡ Ok (traces_view traces.items)) }
-    ensures fits { IfOk result (λ traces. AreTraces names.now traces.items) }
+    ensures fits { IfOk result (λ traces. (limit : ℕ) → All (ReadingFitsWithin limit names.now) readings.items
+        → AreTracesWithin limit names.now traces.items) }
 {
     let mut traces = Vec::with_capacity(alloc, names.processes())?;
     for p in 0..names.processes() {
@@ -137,10 +138,10 @@ fn take_trace(process: usize, readings: &mut Vec<Result<Trace, StreamFault>>) ->
     ensures value { option_map trace_view result ≡ sessions.trace_of process (results_view readings.old.items) }
     ensures others { (q : ℕ) → (q ≡ process → ⊥) →
         sessions.trace_of q (results_view readings.new.items) ≡ sessions.trace_of q (results_view readings.old.items) }
-    ensures left { (names : List ProcessNames) → All (ReadingFits names) readings.old.items
-        → All (ReadingFits names) readings.new.items }
-    ensures fits { IfSome result (λ trace. (names : List ProcessNames) → All (ReadingFits names) readings.old.items
-        → FitsSession names (trace_view trace)) }
+    ensures left { (limit : ℕ) (names : List ProcessNames) → All (ReadingFitsWithin limit names) readings.old.items
+        → All (ReadingFitsWithin limit names) readings.new.items }
+    ensures fits { IfSome result (λ trace. (limit : ℕ) (names : List ProcessNames)
+        → All (ReadingFitsWithin limit names) readings.old.items → FitsWithin limit names (trace_view trace)) }
 {
     let at = place_of(process, readings)?;
     readings.remove(at).ok()

@@ -3,6 +3,7 @@ use Rattle.std.proofs.Common.{List, map}
 use Rattle.def_format.specs.Reports.{Report}
 use Rattle.pd_gather.specs.Views.{results_view}
 use Rattle.def_judgement.specs.Judgements.{IsJudgement, IsReportOfResults, RawStream}
+use Rattle.def_format.specs.Limits.{event_limit}
 use Rattle.pd_spec.specs.Views.{document_view}
 use Rattle.judge_session.specs.SessionReports.{IsReportOfInputs}
 use Rattle.judge_session.specs.Unanswered.{NamesNoCycle}
@@ -55,3 +56,6 @@ returns-clause-read g c = record {
   comes = c.in_ok-gathered.ensures.given.2;
   joined = c.in_ok-traces.ensures.joined;
 }
+
+pub returns-clause-fit : goal.returns-clause-fit
+returns-clause-fit g c = c.in_ok-traces.ensures.fit event_limit c.in_ok-gathered.ensures.fit

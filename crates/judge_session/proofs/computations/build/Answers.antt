@@ -18,13 +18,13 @@ use Rattle.judge_session.proofs.FitTraces.{well_formed, cycle_report, traces_len
 use Rattle.judge_session.proofs.RefusedPlaces.{cycle_named, cycle_reported}
 use Rattle.judge_session.proofs.computations.build.Goals as goal
 
-pub of_cycle-requires : goal.of_cycle-requires
-of_cycle-requires c =
-    subst (λ (names : List ProcessNames). All (HasNames names) c.deref.result.now) (sym c.names.ensures)
-    (rw c.deref.ensures.value (cycle_named (document_view c.args.spec.now).names (computation_view c.args.traces.now)
-    c.in-Err-Cycle.cycle.items (traces_length (document_view c.args.spec.now).names c.args.traces.now
-    c.requires.traces) (cycle_reported (IsReportedCycle (computation_view c.args.traces.now)) c.in-Err-Cycle.field-0
-    c.in-Err-Cycle.cycle c.in-Err-Cycle.field-0-is c.in-Err-Cycle.ensures.cycle)))
+pub cycle_refusal-requires-clause-one_each : goal.cycle_refusal-requires-clause-one_each
+cycle_refusal-requires-clause-one_each c = c.requires.traces.one_each
+
+pub cycle_refusal-requires-clause-cycle : goal.cycle_refusal-requires-clause-cycle
+cycle_refusal-requires-clause-cycle c =
+    rw c.deref.ensures.value (cycle_reported (IsReportedCycle (computation_view c.args.traces.now))
+    c.in-Err-Cycle.field-0 c.in-Err-Cycle.cycle c.in-Err-Cycle.field-0-is c.in-Err-Cycle.ensures.cycle)
 
 pub returns-in-Ok-clause-formed : goal.returns-in-Ok-clause-formed
 returns-in-Ok-clause-formed c =
@@ -37,11 +37,3 @@ returns-in-Ok-clause-formed c =
     (counts_messages (computation_view c.args.traces.now) c.args.matched c.messages-messages.result
     c.requires.messages c.messages-messages.ensures) in
     rw c.in-Ok.ensures.recorded well
-
-pub returns-in_ok-refusal-in-Err-Cycle-clause-refused : goal.returns-in_ok-refusal-in-Err-Cycle-clause-refused
-returns-in_ok-refusal-in-Err-Cycle-clause-refused c =
-    rw (c.in_ok-refusal-in-Err-Cycle.ensures, c.deref.ensures.value, c.names.ensures)
-    (rw (sym (map-map (named_place (document_view c.args.spec.now).names) place_view c.in-Err-Cycle.cycle.items))
-    (cycle_report (document_view c.args.spec.now) c.args.traces.now (places_view c.in-Err-Cycle.cycle.items)
-    c.requires.lawful (cycle_reported (IsReportedCycle (computation_view c.args.traces.now)) c.in-Err-Cycle.field-0
-    c.in-Err-Cycle.cycle c.in-Err-Cycle.field-0-is c.in-Err-Cycle.ensures.cycle)))

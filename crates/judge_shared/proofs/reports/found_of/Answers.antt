@@ -2,6 +2,7 @@
 use Rattle.std.proofs.Common.{List, subst, sym}
 use Rattle.read_traces.specs.declared.event.Trace.{Trace}
 use Rattle.pd_gather.specs.Views.{results_view, traces_view}
+use Rattle.def_format.specs.Limits.{event_limit}
 use Rattle.pd_spec.specs.Views.{document_view}
 use Rattle.judge_session.specs.Computations.{AreWellFormed}
 use Rattle.judge_shared.specs.declared.found.Found.{Found}
@@ -30,3 +31,6 @@ returns-clause-found g c =
         subst (λ (traces : List Trace). AreWellFormed (document_view c.args.spec.now) (traces_view traces)
         c.in_ok-computation.computation c.in_ok-computation.messages) c.deref.ensures.value
         c.in_ok-computation.ensures.formed
+
+pub computation_of-requires : goal.computation_of-requires
+computation_of-requires g c = rw c.deref.ensures.value (c.in_ok-traces.ensures.fit event_limit c.requires.fits)

@@ -9,7 +9,8 @@ use Rattle.pd_events.proofs.progress.take_each.Given as goal
 -- what the lines so far gave, and then the lines that are left
 abbrev pub invariant-loop-line : goal.invariant-loop-line
 invariant-loop-line l = record {
-  so_far : read_on (document_view l.spec).names (reading_view l.phase l.events) (lines_view (drop l.line-index l.lines))
-      ≡ read_on (document_view l.spec).names (reading_view l.fn.start l.fn.events) (lines_view l.lines);
+  so_far : read_on l.limit (document_view l.spec).names (reading_view l.phase l.events) (lines_view
+      (drop l.line-index l.lines))
+      ≡ read_on l.limit (document_view l.spec).names (reading_view l.fn.start l.fn.events) (lines_view l.lines);
   keeps : take (length l.fn.events) l.events ≡ l.fn.events;
 }

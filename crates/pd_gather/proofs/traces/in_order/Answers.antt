@@ -3,7 +3,7 @@ use Rattle.std.proofs.Common.{◌≡◌, ℕ, ◌+◌, ◌<◌, List, [], ◌∷
 use Rattle.std.specs.Prelude.{Some, Result, IsOk, option_map}
 use Rattle.std.proofs.lemmas.Grind.{common_steps}
 use Rattle.def_format.specs.Names.{ProcessNames}
-use Rattle.def_format.specs.ReadingLaws.{FitsSession}
+use Rattle.def_format.specs.ReadingLaws.{FitsWithin}
 use Rattle.def_format.specs.Readings as readings
 use Rattle.def_format.specs.Sessions.{SessionFault, trace_of, traces_from}
 use Rattle.read_traces.specs.Views.{trace_view}
@@ -49,11 +49,26 @@ loop-p-preserved c =
           ∙ ap traces_view (sym pushed))));
       same = λ q above. c.take_trace.ensures.others q (λ (e : q ≡ c.loop-p.p). (omega arith))
           ∙ c.loop-p.invariant.same q (omega arith);
-      left = c.take_trace.ensures.left c.args.names.now c.loop-p.invariant.left;
+      left = λ limit fit. c.take_trace.ensures.left limit c.args.names.now (c.loop-p.invariant.left limit fit);
       process =
           rw pushed (at_push (λ (k : ℕ) (trace : Trace). trace.process ≡ k) c.loop-p.traces.items c.unwrap-trace.result
           c.loop-p.invariant.process (own ∙ sym c.loop-p.invariant.count));
-      fit = rw pushed (at_push (λ (k : ℕ) (trace : Trace). FitsSession c.args.names.now (trace_view trace))
-          c.loop-p.traces.items c.unwrap-trace.result c.loop-p.invariant.fit
-          ((rw c.unwrap-trace.ensures at c.take_trace.ensures.fits) c.args.names.now c.loop-p.invariant.left));
+      fit = λ limit fit.
+          rw pushed (at_push (λ (k : ℕ) (trace : Trace). FitsWithin limit c.args.names.now (trace_view trace))
+          c.loop-p.traces.items c.unwrap-trace.result (c.loop-p.invariant.fit limit fit)
+          ((rw c.unwrap-trace.ensures at c.take_trace.ensures.fits) limit c.args.names.now
+          (c.loop-p.invariant.left limit fit)));
     }
+
+pub returns-clause-fits : goal.returns-clause-fits
+returns-clause-fits c limit fit = record {
+  one_each = omega (
+    arith,
+    c.loop-p.invariant.count,
+    c.loop-p-test.false,
+    c.loop-p.auto.p-end,
+    c.processes-p-end.ensures,
+  );
+  process = c.loop-p.invariant.process;
+  fit = c.loop-p.invariant.fit limit fit;
+}
