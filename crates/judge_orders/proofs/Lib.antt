@@ -5,3 +5,9 @@ pub mod Keeping
 pub mod Ranking
 pub mod Rows
 pub mod Sameness
+pub mod SeenRows
+pub mod KeptParts
+pub mod KeptFew
+pub mod KeptOrders
+pub mod RankRows
+pub mod KeptRanks

@@ -4,3 +4,7 @@ pub mod Growth
 pub mod KeptEvents
 pub mod Ranked
 pub mod OrderViews
+pub mod ProcessEvents
+pub mod KnownRows
+pub mod KeptRuns
+pub mod RankTables

@@ -9,18 +9,30 @@
 //! - `hashing`: a hash of what is seen of processes
 //! - `memory`: how much memory an order takes
 //! - `order`: the order of a run
+//!
+//! Of a run of any length, by its traces:
+//!
+//! - `process_kept`: what is kept of a process
+//! - `rank_table`: what each event knows of
+//! - `known_rows`: what the kept events know of
+//! - `long_order`: the order of the run
 #![tactic(auto)]
 
 mod hashing;
 mod kept;
+mod known_rows;
+mod long_order;
 mod memory;
 mod named;
 mod order;
+mod process_kept;
+mod rank_table;
 mod ranks;
 mod same;
 mod seen;
 
 pub use kept::{all_kept_events, value_after};
+pub use long_order::{KeptRun, order_of_traces};
 pub use named::named_vars;
 pub use order::{Order, ProcessOrder, order_of};
 pub use ranks::{columns, rank};

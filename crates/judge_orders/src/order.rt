@@ -33,7 +33,31 @@ pub struct Order {
     pub(crate) processes: Vec<ProcessOrder>,
 }
 
+impl ProcessOrder {
+    /// What the process's variables that are seen are worth at the beginning and after each kept event: a row for each,
+    /// one after another.
+    pub fn values(&self) -> &[i64] {
+        self.values.as_slice()
+    }
+
+    /// How many kept events of each process are a kept event or happened before it: a row for each kept event, one
+    /// after another.
+    pub fn known(&self) -> &[u16] {
+        self.known.as_slice()
+    }
+}
+
 impl Order {
+    /// The variables of each process that are seen, counted from 0.
+    pub fn named(&self) -> &[Vec<usize>] {
+        self.named.as_slice()
+    }
+
+    /// What is seen of each process.
+    pub fn processes(&self) -> &[ProcessOrder] {
+        self.processes.as_slice()
+    }
+
     /// Whether two orders are the same.
     ///
     /// It takes time for the numbers of one of them, and less if they differ.

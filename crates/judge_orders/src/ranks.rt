@@ -10,7 +10,7 @@ use std::alloc::{AllocError, Global};
 
 /// How many of these numbers are at most `n`, if this many are below it.
 #[inline(always)]
-fn count_with(numbers: &[u64], n: u64, below: usize) -> usize
+pub(crate) fn count_with(numbers: &[u64], n: u64, below: usize) -> usize
     requires ascend { AllPairs (λ (k m : ℕ). k < m) numbers.now }
     requires below { IsCountBelow numbers.now n below }
     ensures count { IsCountBelow numbers.now (n + 1) result }

@@ -1,0 +1,3 @@
+-- The modules of lemmas of this crate.
+pub mod FirstLines
+mod SmallStreams

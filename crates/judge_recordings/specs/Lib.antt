@@ -1,0 +1,2 @@
+-- The modules of definitions of this crate.
+pub mod Runs

@@ -1,0 +1,7 @@
+-- The terms so far are the same.
+use Rattle.std.proofs.Common.{◌≡◌, take}
+use Rattle.pd_pred.specs.Trees.{terms_view}
+use Rattle.judge_reduction.proofs.same_trees.are_same_terms.Given as goal
+
+abbrev pub invariant-loop-i : goal.invariant-loop-i
+invariant-loop-i l = terms_view (take l.i l.first) ≡ terms_view (take l.i l.second)

@@ -1,0 +1,3 @@
+-- The modules of definitions of this crate.
+pub mod ReducedSessions
+pub mod ReadSessions

@@ -1,0 +1,2 @@
+-- The modules of lemmas of this crate.
+mod ReadingSteps
