@@ -330,8 +330,8 @@ def is_there(shell):
 
 def wrong_completions(files):
     """The lines that bash completes otherwise than it should, and fish, if it is there; and what zsh can't read."""
-    every = ["judge", "check", "draw", "serve", "explore", "test", "infer", "batch", "bundle", "merge", "help", "-h",
-             "--help", "-V", "--version", "--explain", "--max-time"]
+    every = ["judge", "check", "draw", "serve", "explore", "test", "infer", "reduce", "batch", "bundle", "merge", "help",
+             "-h", "--help", "-V", "--version", "--explain", "--max-time"]
     wanted = {
         "monitor ": every,
         "monitor j": ["judge"],

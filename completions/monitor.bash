@@ -31,7 +31,7 @@ _monitor() {
   COMPREPLY=()
   [ -n "$skip" ] && return
   if [ "${#words[@]}" -le 2 ]; then
-    COMPREPLY=($(compgen -W 'judge check draw serve explore test infer batch bundle merge help --explain --max-time -h --help -V --version' -- "$current"))
+    COMPREPLY=($(compgen -W 'judge check draw serve explore test infer reduce batch bundle merge help --explain --max-time -h --help -V --version' -- "$current"))
     return
   fi
   case "$previous" in
@@ -96,6 +96,8 @@ _monitor() {
       return ;;
     --junit)
       return ;;
+    --to)
+      return ;;
   esac
   case "$command" in
     judge) options='--explain --max-time --width --ask --workers --beyond-width --fail-on --format --notes -h --help' ;;
@@ -105,11 +107,12 @@ _monitor() {
     explore) options='--explain --max-time --width --ask --workers --beyond-width --fail-on --never --always --sometimes --notes --link -h --help' ;;
     test) options='--explain --max-time --width --ask --workers --never --always --sometimes --jobs --pages --format --json --junit -h --help' ;;
     infer) options='--explain --max-time -h --help' ;;
+    reduce) options='--explain --max-time --width --ask --to -h --help' ;;
     batch) options='--explain --max-time --width --ask --workers --beyond-width --fail-on --jobs --bundles -h --help' ;;
     bundle) options='--explain --max-time -h --help' ;;
     merge) options='--explain --max-time -h --help' ;;
     help)
-      COMPREPLY=($(compgen -W 'judge check draw serve explore test infer batch bundle merge help' -- "$current"))
+      COMPREPLY=($(compgen -W 'judge check draw serve explore test infer reduce batch bundle merge help' -- "$current"))
       return ;;
     *) return ;;
   esac

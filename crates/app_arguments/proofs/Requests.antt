@@ -12,7 +12,7 @@ use Rattle.app_arguments.specs.declared.request.Judgement.{Judgement}
 use Rattle.app_arguments.specs.declared.request.Service.{Service}
 use Rattle.app_arguments.specs.Formats.{Format}
 use Rattle.app_arguments.specs.Places.{Place}
-use Rattle.app_arguments.specs.Statuses.{PageOptions, Request, JudgeInput, JudgeFiles, CheckFiles, DrawFiles, ServeStreams, ExploreFiles, TestRuns, InferDocument, JudgeLines, BundleRuns, MergeLines, ShowHelp, ShowVersion, Unclear}
+use Rattle.app_arguments.specs.Statuses.{PageOptions, Request, JudgeInput, JudgeFiles, CheckFiles, DrawFiles, ServeStreams, ExploreFiles, TestRuns, InferDocument, ReduceRun, JudgeLines, BundleRuns, MergeLines, ShowHelp, ShowVersion, Unclear}
 
 differ : (a b : Text) → bytes_eq a b ≡ false → b ≡ a → ⊥
 differ a b other same = true≢false (sym ((bytes_eq-Decides a b).1 (sym same)) ∙ other)
@@ -36,6 +36,8 @@ judge_lacks rows none (TestRuns options wishes format runs) names =
     differ (codes "test") (codes "judge") refl names.0
 judge_lacks rows none (InferDocument streams) names =
     differ (codes "infer") (codes "judge") refl names.0
+judge_lacks rows none (ReduceRun options document streams folder) names =
+    differ (codes "reduce") (codes "judge") refl names.0
 judge_lacks rows none (JudgeLines options fail_on in_bundles) names =
     differ (codes "batch") (codes "judge") refl names.0
 judge_lacks rows none (BundleRuns runs) names =
@@ -65,6 +67,8 @@ check_lacks rows none (TestRuns options wishes format runs) names =
     differ (codes "test") (codes "check") refl names.0
 check_lacks rows none (InferDocument streams) names =
     differ (codes "infer") (codes "check") refl names.0
+check_lacks rows none (ReduceRun options document streams folder) names =
+    differ (codes "reduce") (codes "check") refl names.0
 check_lacks rows none (JudgeLines options fail_on in_bundles) names =
     differ (codes "batch") (codes "check") refl names.0
 check_lacks rows none (BundleRuns runs) names =
@@ -93,6 +97,8 @@ draw_lacks rows none (TestRuns options wishes format runs) names =
     differ (codes "test") (codes "draw") refl names.0
 draw_lacks rows none (InferDocument streams) names =
     differ (codes "infer") (codes "draw") refl names.0
+draw_lacks rows none (ReduceRun options document streams folder) names =
+    differ (codes "reduce") (codes "draw") refl names.0
 draw_lacks rows none (JudgeLines options fail_on in_bundles) names =
     differ (codes "batch") (codes "draw") refl names.0
 draw_lacks rows none (BundleRuns runs) names =
@@ -123,6 +129,8 @@ serve_lacks rows none (TestRuns options wishes format runs) names =
     differ (codes "test") (codes "serve") refl names.0
 serve_lacks rows none (InferDocument streams) names =
     differ (codes "infer") (codes "serve") refl names.0
+serve_lacks rows none (ReduceRun options document streams folder) names =
+    differ (codes "reduce") (codes "serve") refl names.0
 serve_lacks rows none (JudgeLines options fail_on in_bundles) names =
     differ (codes "batch") (codes "serve") refl names.0
 serve_lacks rows none (BundleRuns runs) names =
@@ -152,6 +160,8 @@ explore_lacks rows none (TestRuns options wishes format runs) names =
     differ (codes "test") (codes "explore") refl names.0
 explore_lacks rows none (InferDocument streams) names =
     differ (codes "infer") (codes "explore") refl names.0
+explore_lacks rows none (ReduceRun options document streams folder) names =
+    differ (codes "reduce") (codes "explore") refl names.0
 explore_lacks rows none (JudgeLines options fail_on in_bundles) names =
     differ (codes "batch") (codes "explore") refl names.0
 explore_lacks rows none (BundleRuns runs) names =
@@ -180,6 +190,8 @@ test_lacks rows none (TestRuns options wishes format runs) names =
     none options wishes format runs names.1
 test_lacks rows none (InferDocument streams) names =
     differ (codes "infer") (codes "test") refl names.0
+test_lacks rows none (ReduceRun options document streams folder) names =
+    differ (codes "reduce") (codes "test") refl names.0
 test_lacks rows none (JudgeLines options fail_on in_bundles) names =
     differ (codes "batch") (codes "test") refl names.0
 test_lacks rows none (BundleRuns runs) names =
@@ -205,6 +217,8 @@ infer_lacks rows none (ExploreFiles options fail_on page document streams) names
 infer_lacks rows none (TestRuns options wishes format runs) names =
     differ (codes "test") (codes "infer") refl names.0
 infer_lacks rows none (InferDocument streams) names = none streams names.1
+infer_lacks rows none (ReduceRun options document streams folder) names =
+    differ (codes "reduce") (codes "infer") refl names.0
 infer_lacks rows none (JudgeLines options fail_on in_bundles) names =
     differ (codes "batch") (codes "infer") refl names.0
 infer_lacks rows none (BundleRuns runs) names =
@@ -214,6 +228,37 @@ infer_lacks rows none JudgeInput names = names
 infer_lacks rows none ShowHelp names = names
 infer_lacks rows none ShowVersion names = names
 infer_lacks rows none Unclear names = names
+
+pub reduce_lacks : (rows : List Row)
+    → ((options : Options) (document : Text) (streams : List Text) (folder : Text)
+    → ¬ (NamesSession rows (codes "STREAM") document streams × NamesOptions rows options
+    × (options.beyond_width ≡ false) × (first_of (codes "FOLDER") rows ≡ Some folder)))
+    → (request : Request) → ¬ NamesBy (codes "reduce") rows request
+reduce_lacks rows none (JudgeFiles options fail_on format document streams) names =
+    differ (codes "judge") (codes "reduce") refl names.0
+reduce_lacks rows none (CheckFiles options format document report streams) names =
+    differ (codes "check") (codes "reduce") refl names.0
+reduce_lacks rows none (DrawFiles options scope document files) names =
+    differ (codes "draw") (codes "reduce") refl names.0
+reduce_lacks rows none (ServeStreams options fail_on format document place port_file watchers wait keep) names =
+    differ (codes "serve") (codes "reduce") refl names.0
+reduce_lacks rows none (ExploreFiles options fail_on page document streams) names =
+    differ (codes "explore") (codes "reduce") refl names.0
+reduce_lacks rows none (TestRuns options wishes format runs) names =
+    differ (codes "test") (codes "reduce") refl names.0
+reduce_lacks rows none (InferDocument streams) names =
+    differ (codes "infer") (codes "reduce") refl names.0
+reduce_lacks rows none (ReduceRun options document streams folder) names =
+    none options document streams folder (names.1, names.2, names.3, names.4)
+reduce_lacks rows none (JudgeLines options fail_on in_bundles) names =
+    differ (codes "batch") (codes "reduce") refl names.0
+reduce_lacks rows none (BundleRuns runs) names =
+    differ (codes "bundle") (codes "reduce") refl names.0
+reduce_lacks rows none MergeLines names = differ (codes "merge") (codes "reduce") refl names
+reduce_lacks rows none JudgeInput names = names
+reduce_lacks rows none ShowHelp names = names
+reduce_lacks rows none ShowVersion names = names
+reduce_lacks rows none Unclear names = names
 
 pub batch_lacks : (rows : List Row) → ((options : Options) (fail_on : List Condition)
     → ¬ (NamesJudging rows options fail_on × HasJobs rows))
@@ -232,6 +277,8 @@ batch_lacks rows none (TestRuns options wishes format runs) names =
     differ (codes "test") (codes "batch") refl names.0
 batch_lacks rows none (InferDocument streams) names =
     differ (codes "infer") (codes "batch") refl names.0
+batch_lacks rows none (ReduceRun options document streams folder) names =
+    differ (codes "reduce") (codes "batch") refl names.0
 batch_lacks rows none (JudgeLines options fail_on in_bundles) names =
     none options fail_on (names.1, names.2)
 batch_lacks rows none (BundleRuns runs) names =
@@ -258,6 +305,8 @@ bundle_lacks rows none (TestRuns options wishes format runs) names =
     differ (codes "test") (codes "bundle") refl names.0
 bundle_lacks rows none (InferDocument streams) names =
     differ (codes "infer") (codes "bundle") refl names.0
+bundle_lacks rows none (ReduceRun options document streams folder) names =
+    differ (codes "reduce") (codes "bundle") refl names.0
 bundle_lacks rows none (JudgeLines options fail_on in_bundles) names =
     differ (codes "batch") (codes "bundle") refl names.0
 bundle_lacks rows none (BundleRuns runs) names = none runs names.1
@@ -270,32 +319,34 @@ bundle_lacks rows none Unclear names = names
 -- a word that is no command's names nothing
 pub no_command : (command : Text) (rows : List Row) → ¬ (command ≡ codes "judge") → ¬ (command ≡ codes "check")
     → ¬ (command ≡ codes "draw") → ¬ (command ≡ codes "serve") → ¬ (command ≡ codes "explore")
-    → ¬ (command ≡ codes "test") → ¬ (command ≡ codes "infer") → ¬ (command ≡ codes "batch")
-    → ¬ (command ≡ codes "bundle") → ¬ (command ≡ codes "merge")
+    → ¬ (command ≡ codes "test") → ¬ (command ≡ codes "infer") → ¬ (command ≡ codes "reduce")
+    → ¬ (command ≡ codes "batch") → ¬ (command ≡ codes "bundle") → ¬ (command ≡ codes "merge")
     → (request : Request) → ¬ NamesBy command rows request
-no_command command rows a b c d e f g h i j (JudgeFiles options fail_on format document streams) names =
+no_command command rows a b c d e f g h i j k (JudgeFiles options fail_on format document streams) names =
     a names.0
-no_command command rows a b c d e f g h i j (CheckFiles options format document report streams) names =
+no_command command rows a b c d e f g h i j k (CheckFiles options format document report streams) names =
     b names.0
-no_command command rows a b c d e f g h i j (DrawFiles options scope document files) names =
+no_command command rows a b c d e f g h i j k (DrawFiles options scope document files) names =
     c names.0
-no_command command rows a b c d e f g h i j
+no_command command rows a b c d e f g h i j k
     (ServeStreams options fail_on format document place port_file watchers wait keep) names = d names.0
-no_command command rows a b c d e f g h i j (ExploreFiles options fail_on page document streams) names =
+no_command command rows a b c d e f g h i j k (ExploreFiles options fail_on page document streams) names =
     e names.0
-no_command command rows a b c d e f g h i j (TestRuns options wishes format runs) names =
+no_command command rows a b c d e f g h i j k (TestRuns options wishes format runs) names =
     f names.0
-no_command command rows a b c d e f g h i j (InferDocument streams) names =
+no_command command rows a b c d e f g h i j k (InferDocument streams) names =
     g names.0
-no_command command rows a b c d e f g h i j (JudgeLines options fail_on in_bundles) names =
+no_command command rows a b c d e f g h i j k (ReduceRun options document streams folder) names =
     h names.0
-no_command command rows a b c d e f g h i j (BundleRuns runs) names =
+no_command command rows a b c d e f g h i j k (JudgeLines options fail_on in_bundles) names =
     i names.0
-no_command command rows a b c d e f g h i j MergeLines names = j names
-no_command command rows a b c d e f g h i j JudgeInput names = names
-no_command command rows a b c d e f g h i j ShowHelp names = names
-no_command command rows a b c d e f g h i j ShowVersion names = names
-no_command command rows a b c d e f g h i j Unclear names = names
+no_command command rows a b c d e f g h i j k (BundleRuns runs) names =
+    j names.0
+no_command command rows a b c d e f g h i j k MergeLines names = k names
+no_command command rows a b c d e f g h i j k JudgeInput names = names
+no_command command rows a b c d e f g h i j k ShowHelp names = names
+no_command command rows a b c d e f g h i j k ShowVersion names = names
+no_command command rows a b c d e f g h i j k Unclear names = names
 
 -- a judgement of files that isn't found
 pub no_judgement : (rows : List Row) (found : Option Judgement) → FindsJudgement rows found → found ≡ None

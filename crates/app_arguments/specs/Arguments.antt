@@ -21,7 +21,7 @@ use Rattle.out_picture.specs.declared.extent.Extent.{Extent}
 use Rattle.out_picture.specs.declared.extent.Extent.TheVariants.{Around, From, All}
 use Rattle.out_picture.specs.declared.kind.Kind.{Kind}
 use Rattle.out_picture.specs.declared.kind.Kind.TheVariants.{Possibly, Definitely}
-use Rattle.app_arguments.specs.Statuses.{PageOptions, Request, JudgeInput, JudgeFiles, CheckFiles, DrawFiles, ServeStreams, ExploreFiles, TestRuns, InferDocument, JudgeLines, BundleRuns, MergeLines, ShowHelp, ShowVersion, Unclear}
+use Rattle.app_arguments.specs.Statuses.{PageOptions, Request, JudgeInput, JudgeFiles, CheckFiles, DrawFiles, ServeStreams, ExploreFiles, TestRuns, InferDocument, ReduceRun, JudgeLines, BundleRuns, MergeLines, ShowHelp, ShowVersion, Unclear}
 
 -- ---- the values of options
 
@@ -177,6 +177,9 @@ NamesBy command rows (ExploreFiles options fail_on page document streams) =
 NamesBy command rows (TestRuns options wishes format runs) =
     (command ≡ codes "test") × NamesTest rows runs options wishes format
 NamesBy command rows (InferDocument streams) = (command ≡ codes "infer") × (all_of (codes "STREAM") rows ≡ Some streams)
+NamesBy command rows (ReduceRun options document streams folder) =
+    (command ≡ codes "reduce") × NamesSession rows (codes "STREAM") document streams × NamesOptions rows options
+    × (options.beyond_width ≡ false) × (first_of (codes "FOLDER") rows ≡ Some folder)
 NamesBy command rows (JudgeLines options fail_on in_bundles) =
     (command ≡ codes "batch") × NamesJudging rows options fail_on × HasJobs rows
     × SaysFlag rows (codes "BUNDLES") in_bundles

@@ -49,6 +49,9 @@ pub data Request : Type 0 where
   TestRuns : (options : Options) (wishes : List Condition) (format : Format) (runs : List (List ℕ)) → Request
   -- to write the first session document of streams of events, each in a file of this name
   InferDocument : (streams : List (List ℕ)) → Request
+  -- to write a session that has the answers of the run which a session document, with what is asked beside it, and
+  -- streams of events make, each in a file of this name, into the folder of this name
+  ReduceRun : (options : Options) (document : List ℕ) (streams : List (List ℕ)) (folder : List ℕ) → Request
   -- to judge the sessions in the lines of the input, or in its bundles, with what is asked beside their documents, and
   -- to fail on these answers
   JudgeLines : (options : Options) (fail_on : List Condition) (in_bundles : Bool) → Request

@@ -151,6 +151,9 @@ test_arguments =
 abbrev pub infer_arguments : List Argument
 infer_arguments = streams ∷ explain ∷ []
 
+abbrev pub reduce_arguments : List Argument
+reduce_arguments = on_document ++ (streams ∷ option (codes "FOLDER") (codes "to") kinds.Name ∷ [])
+
 abbrev pub batch_arguments : List Argument
 batch_arguments = asking ++ judging ++ (jobs ∷ option (codes "BUNDLES") (codes "bundles") kinds.Flag ∷ [])
 
@@ -165,8 +168,8 @@ abbrev pub commands : List (Text × List Argument)
 commands =
     (codes "judge", judge_arguments) ∷ (codes "check", check_arguments) ∷ (codes "draw", draw_arguments)
     ∷ (codes "serve", serve_arguments) ∷ (codes "explore", explore_arguments) ∷ (codes "test", test_arguments)
-    ∷ (codes "infer", infer_arguments) ∷ (codes "batch", batch_arguments) ∷ (codes "bundle", bundle_arguments)
-    ∷ (codes "merge", merge_arguments) ∷ []
+    ∷ (codes "infer", infer_arguments) ∷ (codes "reduce", reduce_arguments) ∷ (codes "batch", batch_arguments)
+    ∷ (codes "bundle", bundle_arguments) ∷ (codes "merge", merge_arguments) ∷ []
 
 -- ---- the command line
 

@@ -21,7 +21,7 @@ use Rattle.app_arguments.specs.declared.place.Place.TheVariants.{Port, Socket}
 use Rattle.app_arguments.specs.declared.request.Judgement.{Judgement}
 use Rattle.app_arguments.specs.declared.request.PageOptions.{PageOptions}
 use Rattle.app_arguments.specs.declared.request.Request.{Request}
-use Rattle.app_arguments.specs.declared.request.Request.TheVariants.{Bundle, Judge, Check, Draw, Serve, Explore, Test, Infer, Batch, BundleRuns, Merge}
+use Rattle.app_arguments.specs.declared.request.Request.TheVariants.{Bundle, Judge, Check, Draw, Serve, Explore, Test, Infer, Reduce, Batch, BundleRuns, Merge}
 use Rattle.app_arguments.specs.declared.request.Service.{Service}
 use Rattle.app_arguments.specs.declared.request.SessionNames.{SessionNames}
 use Rattle.app_arguments.specs.declared.table.Row as rows
@@ -90,6 +90,9 @@ request_view (Test test) =
     asked.TestRuns (options_view test.options) (wishes_view test.wishes.items) (format_view test.format)
     (names_view test.runs.items)
 request_view (Infer streams) = asked.InferDocument (names_view streams.items)
+request_view (Reduce reduction) =
+    asked.ReduceRun (options_view reduction.names.options) (session_view reduction.names).0
+    (session_view reduction.names).1 reduction.folder.now
 request_view (Batch batch) =
     asked.JudgeLines (options_view batch.options) (fail_on_view batch.fail_on) batch.in_bundles
 request_view (BundleRuns runs) = asked.BundleRuns (names_view runs.items)

@@ -21,7 +21,7 @@ use super::format::Format;
 use super::help::{EXTENT_USAGE, FORMAT_USAGE, KIND_USAGE, LIST_USAGE, PLACE_USAGE, TOKEN_USAGE};
 use super::place::Place;
 use super::request::{
-    Admission, Batch, Judgement, PageOptions, Request, Service, SessionNames, Test,
+    Admission, Batch, Judgement, PageOptions, Reduction, Request, Service, SessionNames, Test,
 };
 use super::table::{PORT_LIMIT, TOKEN_LIMIT, WATCHER_LIMIT};
 use super::wishes::{named_wishes, or_none_ever};
@@ -591,6 +591,23 @@ fn infer_request<'a>(
     Ok(Some(Request::Infer(streams)))
 }
 
+/// What the arguments of `reduce` ask for, if all names are there.
+fn reduce_request<'a>(
+    alloc: Global,
+    matches: &ArgMatches<'a>,
+) -> Result<Option<Request<'a>>, AllocError>
+    ensures { IfOk result (FindsRequest (codes "reduce") (rows_in matches.now)) }
+{
+    let Some(folder) = text_of(matches, "FOLDER") else {
+        return Ok(None);
+    };
+    let options = options_of(alloc, matches, false)?;
+    let Some(names) = session_names(alloc, matches, "STREAM", options)? else {
+        return Ok(None);
+    };
+    Ok(Some(Request::Reduce(Reduction { names, folder })))
+}
+
 /// What the arguments of `batch` ask for, if all that they give could be.
 fn batch_request<'a>(
     alloc: Global,
@@ -646,6 +663,7 @@ fn request_by_command<'a>(
         "explore" => explore_request(alloc, matches),
         "test" => test_request(alloc, matches),
         "infer" => infer_request(alloc, matches),
+        "reduce" => reduce_request(alloc, matches),
         "batch" => batch_request(alloc, matches),
         "bundle" => bundle_request(alloc, matches),
         "merge" => Ok(Some(Request::Merge)),

@@ -3,19 +3,20 @@ ghost use Rattle.clap.specs.Simple.{app_of};
 ghost use Rattle.clap.specs.Walk.{rule_of};
 ghost use Rattle.clap.specs.declared.builder.command.Command.TheViews.{out-Command};
 ghost use Rattle.app_arguments.specs.Statuses.{IsVersionLine};
-ghost use Rattle.app_arguments.specs.Table.{batch_arguments, bundle_arguments, check_arguments, draw_arguments, explore_arguments, infer_arguments, judge_arguments, merge_arguments, monitor_app, plain_app, rule_for, serve_arguments, test_arguments, with_arguments, with_commands};
+ghost use Rattle.app_arguments.specs.Table.{batch_arguments, bundle_arguments, check_arguments, draw_arguments, explore_arguments, infer_arguments, judge_arguments, merge_arguments, monitor_app, plain_app, reduce_arguments, rule_for, serve_arguments, test_arguments, with_arguments, with_commands};
 ghost use Rattle.app_arguments.specs.Views.{row_view};
 ghost use Rattle.std.specs.Prelude.{◌≡◌, ◌∷◌, IfOk, [], codes, false, map};
 
 use super::help::{
     ABOUT, AFTER, BATCH_ABOUT, BATCH_AFTER, BUNDLE_ABOUT, BUNDLE_AFTER, CHECK_ABOUT, CHECK_AFTER,
     DRAW_ABOUT, DRAW_AFTER, EXPLORE_ABOUT, EXPLORE_AFTER, INFER_ABOUT, INFER_AFTER, JUDGE_ABOUT,
-    JUDGE_AFTER, MERGE_ABOUT, MERGE_AFTER, SERVE_ABOUT, SERVE_AFTER, TEST_ABOUT, TEST_AFTER,
+    JUDGE_AFTER, MERGE_ABOUT, MERGE_AFTER, REDUCE_ABOUT, REDUCE_AFTER, SERVE_ABOUT, SERVE_AFTER,
+    TEST_ABOUT, TEST_AFTER,
 };
 use super::table::{
     ArgumentKind, Row, batch_arguments, bundle_arguments, check_arguments, draw_arguments, explain,
-    explore_arguments, infer_arguments, judge_arguments, merge_arguments, serve_arguments,
-    test_arguments,
+    explore_arguments, infer_arguments, judge_arguments, merge_arguments, reduce_arguments,
+    serve_arguments, test_arguments,
 };
 use clap::builder::ValueParser;
 use clap::{Arg, ArgAction, Command};
@@ -150,7 +151,7 @@ fn with_files<'a>(alloc: Global, program: Command<'a>) -> Result<Command<'a>, Al
 fn with_others<'a>(alloc: Global, program: Command<'a>) -> Result<Command<'a>, AllocError>
     ensures { IfOk result (λ whole. app_of whole ≡ with_commands (app_of program.entry)
         ((codes "serve", serve_arguments) ∷ (codes "explore", explore_arguments)
-        ∷ (codes "test", test_arguments) ∷ (codes "infer", infer_arguments) ∷ [])) }
+        ∷ (codes "test", test_arguments) ∷ [])) }
 {
     let program = with_command(
         alloc,
@@ -168,21 +169,36 @@ fn with_others<'a>(alloc: Global, program: Command<'a>) -> Result<Command<'a>, A
         EXPLORE_ABOUT,
         EXPLORE_AFTER,
     )?;
-    let program = with_command(
+    with_command(
         alloc,
         program,
         "test",
         &test_arguments(),
         TEST_ABOUT,
         TEST_AFTER,
-    )?;
-    with_command(
+    )
+}
+
+/// The program's command line with the commands that make other sessions of recorded runs, too.
+fn with_makers<'a>(alloc: Global, program: Command<'a>) -> Result<Command<'a>, AllocError>
+    ensures { IfOk result (λ whole. app_of whole ≡ with_commands (app_of program.entry)
+        ((codes "infer", infer_arguments) ∷ (codes "reduce", reduce_arguments) ∷ [])) }
+{
+    let program = with_command(
         alloc,
         program,
         "infer",
         &infer_arguments(),
         INFER_ABOUT,
         INFER_AFTER,
+    )?;
+    with_command(
+        alloc,
+        program,
+        "reduce",
+        &reduce_arguments(),
+        REDUCE_ABOUT,
+        REDUCE_AFTER,
     )
 }
 
@@ -224,5 +240,6 @@ pub(crate) fn program_command<'a>(alloc: Global) -> Result<Command<'a>, AllocErr
 {
     let program = with_files(alloc, plain_command(alloc)?)?;
     let program = with_others(alloc, program)?;
+    let program = with_makers(alloc, program)?;
     with_lines(alloc, program)
 }

@@ -7,9 +7,9 @@ events for each process, from files. With no command they are read from the stan
 A report is written to the standard output. The command `check` checks the evidence in such a report, and `draw` \
 draws it, or a session of which the report is made first. \
 The command `serve` judges streams that processes send over TCP or a Unix socket while they run, `explore` writes a \
-page on which a run is explored, `test` says of many recorded runs which are not as wished, and `infer` writes a \
-first session document of recorded streams. The command `batch` judges sessions that come one in a line, as `bundle` \
-writes them, and `merge` counts its answers.";
+page on which a run is explored, `test` says of many recorded runs which are not as wished, `infer` writes a first \
+session document of recorded streams, and `reduce` makes a session of a run of any length. The command `batch` judges \
+sessions that come one in a line, as `bundle` writes them, and `merge` counts its answers.";
 
 /// What the program's help ends with.
 pub(crate) const AFTER: &str = "\
@@ -22,9 +22,10 @@ nothing is written to the standard output but the lines of the runs that `test` 
 
 Status:
   0  The session is judged, and no condition of --fail-on is met; all tested runs pass; a check finds nothing bad; the \
-picture, the page, the first document, the line of each run or the help is written
-  1  The session, or a stream of a first document, is refused; a tested run, or a line, could not be judged, and none \
-fails; a check finds something bad, or what stands against the picture; a line has nothing to count
+picture, the page, the first document, the session that is made, the line of each run or the help is written
+  1  The session, a recorded run, or a stream of a first document is refused; no session can be made of a run; a \
+tested run, or a line, could not be judged, and none fails; a check finds something bad, or what stands against the \
+picture; a line has nothing to count
   2  The arguments are refused, or name a predicate or evidence that isn't there
   3  A file can't be opened or read, a port can't be bound, a stream can't be accepted or doesn't come in time, or the \
 output or what is to be kept can't be written
@@ -220,6 +221,24 @@ written, and 4 if memory runs out.\n\n\
 With --max-time SECONDS the status is 6 if the run takes longer, and nothing is written to the standard output.\n\n\
 The formats are described in docs/SPECIFICATION.md. An example, at the top of the repository:\n  \
 crates/monitor/out/monitor infer examples/ten-lines/left.stream examples/ten-lines/right.stream > session.json";
+
+/// What the help says of `reduce`.
+pub(crate) const REDUCE_ABOUT: &str =
+    "Makes a session, with the same answers, of a recorded run of any length";
+
+/// What the help of `reduce` ends with.
+pub(crate) const REDUCE_AFTER: &str =
+    "The streams may have any number of bytes, and a process up to 2147483647 events. Kept are the events that set a \
+variable which a predicate names to another value, with their order. So for each predicate the session has the answers \
+of the run, to Possibly and to Definitely. In FOLDER stand its document, session.json, of version 2, and a stream of \
+each process, NAME.stream, for `judge`, `explore` and all other commands. The message a-12 is sent by the 12th kept \
+event of the process a. A line on the run and one on the session are written to the standard output.\n\n\
+The status is 0 if the session is made, 1 if the run is refused, with its report, or if its session would have more \
+than a session may have, as more than 10000 events of a process, 2 if the arguments are refused, 3 if a file can't be \
+opened or read, or the folder or the output can't be written, and 4 if memory runs out.\n\n\
+With --max-time SECONDS the status is 6 if the run takes longer, and nothing is written to the standard output.\n\n\
+The formats are described in docs/SPECIFICATION.md. An example, at the top of the repository:\n  \
+crates/monitor/out/monitor reduce examples/ten-lines/session.json examples/ten-lines/*.stream --to reduced";
 
 /// What the help says of `batch`.
 pub(crate) const BATCH_ABOUT: &str =

@@ -48,6 +48,8 @@ pub use format::Format;
 pub use kind::Kind;
 pub use place::Place;
 pub use reason::Reason;
-pub use request::{Admission, Batch, Judgement, PageOptions, Request, Service, SessionNames, Test};
+pub use request::{
+    Admission, Batch, Judgement, PageOptions, Reduction, Request, Service, SessionNames, Test,
+};
 pub use table::TOKEN_LIMIT;
 pub use workers::Workers;

@@ -118,6 +118,15 @@ pub struct Test<'a> {
     pub junit: Option<&'a str>,
 }
 
+/// What the reduction of a recorded run is asked for.
+#[derive(Drop)]
+pub struct Reduction<'a> {
+    /// The names of the run's files.
+    pub names: SessionNames<'a>,
+    /// The name of the folder for the session that is made.
+    pub folder: &'a str,
+}
+
 /// What a judgement of sessions in lines, or in bundles, is asked for.
 #[derive(Drop)]
 pub struct Batch<'a> {
@@ -154,6 +163,8 @@ pub enum Request<'a> {
     Test(Test<'a>),
     /// To write the first session document of the streams in the files of these names.
     Infer(Vec<&'a str>),
+    /// To write a session that has the answers of a recorded run.
+    Reduce(Reduction<'a>),
     /// To judge the sessions in the lines of the input, or in its bundles.
     Batch(Batch<'a>),
     /// To write the recorded runs in the folders of these names as sessions in lines.

@@ -1,5 +1,5 @@
 //! The table of the program's commands: what each takes, and what its help says of it.
-ghost use Rattle.app_arguments.specs.Table.{asking, batch_arguments, beyond_width, bundle_arguments, check_arguments, column_number_limit, draw_arguments, explain, explore_arguments, format, infer_arguments, jobs, judge_arguments, merge_arguments, notes, option, placed, port_limit, runs, serve_arguments, streams, test_arguments, wait_limit, watcher_limit, workers};
+ghost use Rattle.app_arguments.specs.Table.{asking, batch_arguments, beyond_width, bundle_arguments, check_arguments, column_number_limit, draw_arguments, explain, explore_arguments, format, infer_arguments, jobs, judge_arguments, merge_arguments, notes, option, placed, port_limit, reduce_arguments, runs, serve_arguments, streams, test_arguments, wait_limit, watcher_limit, workers};
 ghost use Rattle.app_arguments.specs.Views.{row_view};
 ghost use Rattle.app_arguments.specs.declared.table.ArgumentKind.TheVariants as kinds;
 ghost use Rattle.def_format.specs.Limits.{width_limit, worker_limit};
@@ -421,6 +421,18 @@ fn keep() -> Row
     )
 }
 
+/// The folder for a session that is made.
+fn to() -> Row
+    ensures { row_view result ≡ option (codes "FOLDER") (codes "to") kinds.Name }
+{
+    option(
+        "FOLDER",
+        "to",
+        ArgumentKind::Name,
+        "The folder for the session that is made: a new one, or one in which nothing is",
+    )
+}
+
 /// What is never to hold in a run that passes.
 fn never() -> Row
     ensures { row_view result ≡ option (codes "NEVER") (codes "never") kinds.Texts }
@@ -747,6 +759,13 @@ pub(crate) fn infer_arguments() -> [Row; 2]
     ensures { map row_view result ≡ infer_arguments }
 {
     [streams(), explain()]
+}
+
+/// What `reduce` takes, in the order of its help.
+pub(crate) fn reduce_arguments() -> [Row; 6]
+    ensures { map row_view result ≡ reduce_arguments }
+{
+    [spec(), explain(), width(), ask(), streams(), to()]
 }
 
 /// What `batch` takes, in the order of its help.

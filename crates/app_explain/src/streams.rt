@@ -74,7 +74,8 @@ pub(crate) fn advice(word: StreamWord) -> &'static str {
     match word {
         StreamWord::LineTooLong => "look whether a line feed is missing between two events.",
         StreamWord::StreamTooLong | StreamWord::Events => {
-            "record fewer events: none for what changes no variable that a predicate names, and shorter runs."
+            "make a session of it that has the same answers: monitor reduce, with the same document and streams, and \
+--to FOLDER. Then judge FOLDER/session.json and FOLDER/*.stream."
         }
         StreamWord::Json =>
             "look how the line was written: two writers may share the file; or a crash cut it off, then put \

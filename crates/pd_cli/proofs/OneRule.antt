@@ -17,13 +17,14 @@ use Rattle.app_arguments.specs.Conditions.{is_met, unknown_name}
 use Rattle.app_arguments.specs.Conditions as conditions
 use Rattle.app_arguments.specs.Formats.{Format, Plain, Json}
 use Rattle.app_arguments.specs.Places.{Place}
-use Rattle.app_arguments.specs.Statuses.{Alarm, BundleFailure, BundleRuns, CheckFiles, ComesTo, DrawFiles, Ending, Ends, ExploreFiles, Failed, Failure, File, HasNamed as HasNamedBy, HelpLeaves, InferDocument, IsTextOfAccepted, JudgeFiles, JudgeInput, JudgeLines, JudgementLeaves, LacksNamed, LeavesOf, MayBeUnread, MemoryFailure, MergeLines, Misuse, MisuseLeaves, Negative, NetworkFailure, NoPredicate, OfClaim, OfConnections, OfDocument, OfFinding, OfNamed, OfReport, OfStreams, ReadFailure, Reports, Request, ServeStreams, ServiceMayFail, ShowHelp, ShowVersion, Success, TestRuns, Unclear, VersionLeaves, WriteFailure, WritesUpTo, sources_of, status_of}
+use Rattle.app_arguments.specs.Statuses.{Alarm, BundleFailure, BundleRuns, CheckFiles, ComesTo, DrawFiles, Ending, Ends, ExploreFiles, Failed, Failure, File, HasNamed as HasNamedBy, HelpLeaves, InferDocument, IsTextOfAccepted, JudgeFiles, JudgeInput, JudgeLines, JudgementLeaves, LacksNamed, LeavesOf, MayBeUnread, MemoryFailure, MergeLines, Misuse, MisuseLeaves, Negative, NetworkFailure, NoPredicate, OfClaim, OfConnections, OfDocument, OfFinding, OfNamed, OfReport, OfStreams, ReadFailure, ReduceRun, Reports, Request, ServeStreams, ServiceMayFail, ShowHelp, ShowVersion, Success, TestRuns, Unclear, VersionLeaves, WriteFailure, WritesUpTo, sources_of, status_of}
 use Rattle.app_host.proofs.FilesRead.{up_to_weaker}
 use Rattle.app_host.specs.FileSources.{bytes_in}
 use Rattle.app_host.specs.Formats.{IsFindingIn}
 use Rattle.app_serve.specs.Kept.{WritesFiles}
 use Rattle.app_serve.specs.Served.{IsServed}
 use Rattle.app_serve.proofs.ServedTexts.{weaker_said_in}
+use Rattle.app_reduce.specs.Reduced.{ReduceLeaves}
 use Rattle.app_results.specs.RunReports.{IsReportOf}
 use Rattle.app_test.specs.Tests.{IsTestText, TestLeaves}
 use Rattle.judge_explore.proofs.Written.{owed_weaker}
@@ -354,6 +355,30 @@ module _ (format : Format) (options : Options) (document : File) (IsUnread : Typ
   claim_left (Failed BundleFailure) h = inr (with_none (Failed BundleFailure) h)
   claim_left (Failed NetworkFailure) h = inr (with_none (Failed NetworkFailure) h)
 
+-- ---- a reduction
+
+module _ (options : Options) (document : File) (IsUnread : Type 0) (streams : List Source) (old new : Option (List ℕ))
+  where
+    reduced_of : (ending : Ending)
+        → OfDocument options document (λ inquiry. ReduceLeaves inquiry streams ending old new)
+        → OfDocument options document (λ inquiry. HasNamed [] inquiry × ReduceLeaves inquiry streams ending old new)
+    reduced_of ending = of_document options document _ _ (λ inquiry h. ((λ read is. refl), h))
+
+    pub reduction_left : (ending : Ending)
+        → LeavesOf options document IsUnread (λ inquiry. ReduceLeaves inquiry streams) ending old new
+        → OutOfMemory ending old new
+        ⊎ OfSession options document IsUnread [] (λ inquiry. ReduceLeaves inquiry streams) ending old new
+    reduction_left Success h = inr (reduced_of Success h)
+    reduction_left Negative h = inr (reduced_of Negative h)
+    reduction_left Alarm h = absurd h.holds
+    reduction_left NoPredicate h = absurd h.holds
+    reduction_left Misuse h = absurd h.holds
+    reduction_left (Failed MemoryFailure) h = inl (refl, h)
+    reduction_left (Failed ReadFailure) h = inr h
+    reduction_left (Failed WriteFailure) h = inr (reduced_of (Failed WriteFailure) h)
+    reduction_left (Failed BundleFailure) h = absurd h.holds
+    reduction_left (Failed NetworkFailure) h = absurd h.holds
+
 -- ---- a page
 
 page_follows : (bytes_of : List ℕ → Option (List ℕ)) (asked : Asked) (names : List (List ℕ)) (inquiry : Inquiry)
@@ -565,6 +590,8 @@ module _ (input : Source) (files : List ℕ → File) (connections : Place → S
   ran (TestRuns options wishes format runs) = by_rule _ _ status old new errors_old errors_new
       (λ ending h. inr (test_left files options wishes format runs old new ending h))
   ran (InferDocument streams) = λ h. inr h
+  ran (ReduceRun options document streams folder) = by_rule _ _ status old new errors_old errors_new
+      (reduction_left options (files document) _ (sources_of (map files streams)) old new)
   ran (JudgeLines options fail_on in_bundles) = by_rule _ _ status old new errors_old errors_new (λ ending h. inr h)
   ran (BundleRuns runs) = by_rule _ _ status old new errors_old errors_new (λ ending h. inr h)
   ran MergeLines = λ h. inr h

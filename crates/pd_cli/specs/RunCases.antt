@@ -5,7 +5,7 @@ use Rattle.std.specs.Io.KnownBytes.{Keeps}
 use Rattle.clap.specs.Words.{Text}
 use Rattle.def_judgement.specs.Writes.{Source}
 use Rattle.app_arguments.specs.Arguments.{AsksFor}
-use Rattle.app_arguments.specs.Statuses.{CheckFiles, DrawFiles, Ending, Ends, ExploreFiles, Failed, File, HelpLeaves, BundleRuns, InferDocument, JudgeFiles, JudgeInput, JudgeLines, JudgementLeaves, LeavesOf, MayBeUnread, MemoryFailure, MergeLines, MisuseLeaves, OfConnections, OfFinding, OfNamed, Request, ServeStreams, ServiceMayFail, ShowHelp, ShowVersion, TestRuns, Unclear, UnreadClaim, VersionLeaves, sources_of}
+use Rattle.app_arguments.specs.Statuses.{CheckFiles, DrawFiles, Ending, Ends, ExploreFiles, Failed, File, HelpLeaves, BundleRuns, InferDocument, JudgeFiles, JudgeInput, JudgeLines, JudgementLeaves, LeavesOf, MayBeUnread, MemoryFailure, MergeLines, MisuseLeaves, OfConnections, OfFinding, OfNamed, ReduceRun, Request, ServeStreams, ServiceMayFail, ShowHelp, ShowVersion, TestRuns, Unclear, UnreadClaim, VersionLeaves, sources_of}
 use Rattle.app_draw.specs.ShownDrawings.{EndsShown}
 use Rattle.app_explore.specs.Explorations.{AskedPage, ExplorationLeaves, FilesLeave}
 use Rattle.app_host.specs.Formats.{IsFindingIn}
@@ -13,6 +13,7 @@ use Rattle.app_arguments.specs.Places.{Place}
 use Rattle.app_serve.specs.Kept.{WritesFiles}
 use Rattle.app_serve.specs.Served.{IsServed}
 use Rattle.app_infer.specs.Inferences.{EndsInferred}
+use Rattle.app_reduce.specs.Files.{RunLeaves}
 use Rattle.app_results.specs.RunReports.{IsReportOf}
 use Rattle.app_test.specs.Tests.{TestLeaves}
 use Rattle.app_batch.specs.Batches.{BatchLeaves}
@@ -46,6 +47,8 @@ Leaves input files connections network_serves (ExploreFiles options fail_on page
 Leaves input files connections network_serves (TestRuns options wishes format runs) =
     By (TestLeaves files options wishes format (IsReportOf files options) runs)
 Leaves input files connections network_serves (InferDocument streams) = EndsInferred files streams
+Leaves input files connections network_serves (ReduceRun options document streams folder) =
+    By (RunLeaves files options document streams)
 Leaves input files connections network_serves (JudgeLines options fail_on in_bundles) =
     By (BatchLeaves input options fail_on in_bundles)
 Leaves input files connections network_serves (BundleRuns runs) = By (BundleLeaves files runs)

@@ -10,12 +10,13 @@ use Rattle.def_judgement.specs.Writes.{IsBrokenOff, IsTextOfBundle, IsTextOfStre
 use Rattle.app_arguments.specs.Conditions.{is_asked_for}
 use Rattle.app_arguments.specs.Formats.{Format, Plain, Json}
 use Rattle.app_arguments.specs.Places.{Place}
-use Rattle.app_arguments.specs.Statuses.{Alarm, BundleFailure, BundleRuns, CheckFiles, DrawFiles, Ending, ExploreFiles, Failed, File, InferDocument, IsTextOfAccepted, JudgeFiles, JudgeInput, JudgeLines, MayBeUnread, MemoryFailure, MergeLines, Misuse, Negative, NetworkFailure, NoPredicate, OfClaim, OfDocument, ReadFailure, Request, ServeStreams, ShowHelp, ShowVersion, Success, TestRuns, Unclear, WriteFailure, WritesUpTo, line_of_failure, sources_of, status_of_failure}
+use Rattle.app_arguments.specs.Statuses.{Alarm, BundleFailure, BundleRuns, CheckFiles, DrawFiles, Ending, ExploreFiles, Failed, File, InferDocument, IsTextOfAccepted, JudgeFiles, JudgeInput, JudgeLines, MayBeUnread, MemoryFailure, MergeLines, Misuse, Negative, NetworkFailure, NoPredicate, OfClaim, OfDocument, ReadFailure, ReduceRun, Request, ServeStreams, ShowHelp, ShowVersion, Success, TestRuns, Unclear, WriteFailure, WritesUpTo, line_of_failure, sources_of, status_of_failure}
 use Rattle.judge_runs.specs.Runs.{Fail, NotJudged, Run, count_of, verdict_of_run}
 use Rattle.judge_runs.specs.Wishes.{Condition, lacks_name}
 use Rattle.app_host.specs.FileSources.{bytes_in}
 use Rattle.app_host.specs.Formats.{IsFindingIn}
 use Rattle.app_infer.specs.Inferences.{EndsInferred}
+use Rattle.app_reduce.specs.Reduced.{ReduceLeaves}
 use Rattle.app_results.specs.RunReports.{IsReportOf}
 use Rattle.app_serve.specs.Served.{IsServed}
 use Rattle.app_test.specs.Tests.{IsTestText}
@@ -157,6 +158,10 @@ Leaves input files connections network_serves (ExploreFiles options fail_on page
 Leaves input files connections network_serves (TestRuns options wishes format runs) =
     By (λ ending. LeavesText (IsTestAt files options wishes format runs ending) ending)
 Leaves input files connections network_serves (InferDocument streams) = EndsInferred files streams
+Leaves input files connections network_serves (ReduceRun options document streams folder) =
+    By (OfSession options (files document)
+    (MayBeUnread (files document ∷ map files streams) (files document ∷ map files streams)) []
+    (λ inquiry. ReduceLeaves inquiry (sources_of (map files streams))))
 Leaves input files connections network_serves (JudgeLines options fail_on in_bundles) =
     By (BatchLeaves input options fail_on in_bundles)
 Leaves input files connections network_serves (BundleRuns runs) = By (BundleLeaves files runs)

@@ -18,6 +18,7 @@ ghost use Rattle.app_batch.specs.Batches.{BatchLeaves};
 ghost use Rattle.app_bundle.specs.Bundles.{BundleLeaves};
 ghost use Rattle.app_infer.specs.Inferences.{EndsInferred};
 ghost use Rattle.app_merge.specs.Merges.{EndsMerged};
+ghost use Rattle.app_reduce.specs.Files.{RunLeaves};
 ghost use Rattle.app_results.specs.RunReports.{IsReportOf};
 ghost use Rattle.app_test.specs.Tests.{TestLeaves};
 ghost use Rattle.judge_runs.specs.Views.{wishes_view};
@@ -30,7 +31,7 @@ use super::explained_services::service_text;
 use super::explanation::write_explanation;
 use super::parser_error::report_parser_error;
 use app_arguments::{
-    Batch, Format, Judgement, PageOptions, Request, Service, SessionNames, Test, parse,
+    Batch, Format, Judgement, PageOptions, Reduction, Request, Service, SessionNames, Test, parse,
 };
 use app_batch::{Asked, batch_lines, batch_text};
 use app_bundle::{bundle_runs, bundle_runs_text};
@@ -45,6 +46,7 @@ use app_host::{
 };
 use app_infer::{infer_files, infer_text, report_infer};
 use app_merge::{merge_lines, merge_text, report_merge};
+use app_reduce::{Unwritten, reduce_files, reduction_text, report_reduction};
 use app_results::{Pages, ResultFiles, test_files, test_text};
 use app_serve::{Host, Peers, report_service_end, serve};
 use app_test::report_test;
@@ -252,6 +254,25 @@ fn run_infer<Y: System, O: Write, E: Write>(
     report_infer(&end, errors)
 }
 
+/// Writes a session that has the answers of the recorded run in files, and gives the exit status.
+fn run_reduce<Y: System, O: Write, E: Write>(
+    world: &World<'_, Y>,
+    reduction: &Reduction<'_>,
+    output: &mut O,
+    errors: &mut E,
+) -> u8
+    ensures { Explained world.now.explain (λ start. Ends (λ ending. RunLeaves
+        (Y.Files.file_of world.now.files.now) (options_view reduction.now.names.options)
+        reduction.now.names.spec.now (session_view reduction.now.names).1 ending (O.contents output.old)
+        (O.contents output.new)) result start (E.contents errors.new)) (E.contents errors.old) }
+{
+    let mut unwritten = Unwritten::new();
+    let end = reduce_files(world, reduction, &mut unwritten, output);
+    let text = reduction_text(world, reduction, &unwritten, &end);
+    write_explanation(world.explain, &text, errors);
+    report_reduction(&end, errors)
+}
+
 /// Judges the sessions in the lines of the input, or in its bundles, and gives the exit status.
 fn run_batch<Y: System, I: ByteSource + Drop, O: Write, E: Write>(
     world: &World<'_, Y>,
@@ -360,6 +381,7 @@ fn run_arguments<Y: System, I: ByteSource + Drop, O: Write, E: Write>(
         }
         Ok(Request::Test(test)) => { run_test(world, &test, output, errors) }
         Ok(Request::Infer(streams)) => run_infer(world, &streams, output, errors),
+        Ok(Request::Reduce(reduction)) => run_reduce(world, &reduction, output, errors),
         Ok(Request::Batch(batch)) => run_batch(world, input, &batch, output, errors),
         Ok(Request::BundleRuns(runs)) => run_bundle_runs(world, &runs, output, errors),
         Ok(Request::Merge) => run_merge(world, input, output, errors),
@@ -386,11 +408,12 @@ fn without_first(arguments: &[String]) -> &[String]
 /// these and writes the page on which their run is explored, or the page of a refusal, to `output`; these three answer
 /// predicates beyond the width where they are decided, and fail on answers, if that is asked for; `test`, with the
 /// names of folders with recorded runs, judges each and writes to `output` which of them are not as wished; `infer`,
-/// with the names of streams, writes their first document to `output`; `batch` judges the sessions in the lines of
-/// `input`, `bundle`, with the names of folders with recorded runs, writes such lines, and `merge` writes the summary
-/// of what `batch` wrote from `input`; the help that they ask for is written to `output`, and what is wrong with them
-/// to `errors`. `errors` also has one line for each fault, and before it an explanation if one is wanted, as `explain`
-/// says; what of it can't be written is left off.
+/// with the names of streams, writes their first document to `output`; `reduce`, with the names of `judge`, writes a
+/// session that has the answers of a recorded run into a folder, and what both have to `output`; `batch` judges the
+/// sessions in the lines of `input`, `bundle`, with the names of folders with recorded runs, writes such lines, and
+/// `merge` writes the summary of what `batch` wrote from `input`; the help that they ask for is written to `output`,
+/// and what is wrong with them to `errors`. `errors` also has one line for each fault, and before it an explanation if
+/// one is wanted, as `explain` says; what of it can't be written is left off.
 pub fn run<
     S: RandomSource + Threads + Wait + Sync,
     F: FileSource,

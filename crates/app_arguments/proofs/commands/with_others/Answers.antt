@@ -1,7 +1,7 @@
 -- The commands are added one after another.
 use Rattle.std.proofs.Common.{codes, refl}
 use Rattle.clap.specs.Simple.{app_of}
-use Rattle.app_arguments.specs.Table.{explore_arguments, infer_arguments, serve_arguments, test_arguments}
+use Rattle.app_arguments.specs.Table.{explore_arguments, serve_arguments, test_arguments}
 use Rattle.app_arguments.proofs.Builders.{added, last_added}
 use Rattle.app_arguments.proofs.commands.with_others.Goals as goal
 
@@ -13,8 +13,5 @@ returns c =
     let with_explore =
     added _ _ _ (codes "explore") _ explore_arguments c.in_ok-program-2.ensures
     with_serve c.explore_arguments.ensures in
-    let with_test =
-    added _ _ _ (codes "test") _ test_arguments c.in_ok-program-3.ensures
-    with_explore c.test_arguments.ensures in
-    last_added _ _ _ (codes "infer") _ infer_arguments c.with_command-4.ensures with_test
-    c.infer_arguments.ensures
+    last_added _ _ _ (codes "test") _ test_arguments c.with_command-3.ensures with_explore
+    c.test_arguments.ensures

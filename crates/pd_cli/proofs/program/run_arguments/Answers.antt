@@ -91,6 +91,20 @@ returns-in-Ok-Test g c = record {
   };
 }
 
+pub returns-in-Ok-Reduce : goal.returns-in-Ok-Reduce
+returns-in-Ok-Reduce g c = record {
+  ends = record {
+    start = c.run_reduce.ensures.start;
+    explanation = c.run_reduce.ensures.explanation;
+    reported = inr (
+      _,
+      subst (IsAsked (map (λ argument. argument.bytes.items) c.args.arguments.now)) c.in-Ok-Reduce.field-0-is
+          c.in-Ok-Reduce.ensures.asked,
+      c.run_reduce.ensures.reported,
+    );
+  };
+}
+
 pub returns-in-Err : goal.returns-in-Err
 returns-in-Err g c = record {
   ends = record {
