@@ -4,10 +4,10 @@
 An input is a bundle, or a folder with `session.json`, `report` and files `NAME.stream`. A folder is judged from its
 files, by one worker and by two, with --beyond-width and --fail-on, and as a bundle; its report is checked and drawn;
 its run is explored; and its streams are served, with a watcher. Small sessions are run beside them: one that is judged,
-one with messages, which is also served and kept, served to those who join with a token, and given as a bundle with
-these commands, one with a causal cycle, one with wide levels, and one of sixteen processes; and one of width 1, that is
-judged and served with these two options alone, has predicates for each way to answer, and is judged once with others in
-their place. Some of them are given as lines and as recorded runs too, see refuse_lines.py. For each of these runs and
+one with messages, which is also reduced, served and kept, served to those who join with a token, and given as a bundle
+with these commands, one with a causal cycle, one with wide levels, and one of sixteen processes; and one of width 1,
+that is judged and served with these two options alone, has predicates for each way to answer, and is judged once with
+others in their place. Some of them are given as lines and as recorded runs too, see refuse_lines.py. For each of these runs and
 each N, counted upward until a run meets no refusal, the program runs with its Nth allocation refused; then with its Nth
 read or receipt failing, its Nth write, what it sends to a watcher, its Nth opened file, accepted connection, folder
 that is made and file that is renamed; and with the Nth of all these, and of its sleeps, failing as one does that a
@@ -164,6 +164,15 @@ def serve(arguments, streams, folder, number, kind):
     return (*ended, kept_files(kept_in(arguments))), asked_for(folder)
 
 
+def reduce(arguments, bundle, folder, number, kind):
+    """What a reduction gives and which files its session has then, and how many calls of the kind it made."""
+    made = arguments[arguments.index("--to") + 1]
+    for name in (made, made + ".new"):
+        shutil.rmtree(name, ignore_errors=True)
+    ended, calls = run(arguments, bundle, folder, number, kind)
+    return (*ended, kept_files(made)), calls
+
+
 def kept_in(arguments):
     """The folder in which a server keeps its session; no folder has this name if it keeps none."""
     return arguments[arguments.index("--keep") + 1] if "--keep" in arguments else ""
@@ -230,6 +239,7 @@ def runs_of(program, name, path):
     said = [b"x\n" + part for part in parts[1:]]
     as_json = ["--format", "json"]
     kept = [("judge as JSON", run, [*judge, *as_json], b""),
+            ("reduce", reduce, [program, "reduce", document, *streams, "--to", os.path.join(path, "reduced")], b""),
             ("check as JSON", run, [program, "check", document, report, *streams, *as_json], b""),
             ("serve as JSON", serve, [program, "serve", document, *as_json], parts[1:]),
             ("serve and keep", serve, keep, parts[1:]),
@@ -283,6 +293,8 @@ def is_right(arguments, kind, ended, want):
     """Whether a run that was refused a call ended as it may; what it gives with no refusal is `want`."""
     if arguments[1:] and arguments[1] in refuse_lines.COMMANDS:
         return refuse_lines.is_right(arguments[1], kind, ended, want)
+    if arguments[1:] and arguments[1] == "reduce":
+        return is_reduced(kind, ended, want)
     if len(ended) > 3 and not (is_shown(kind, ended[3], want[3]) and is_kept(ended[4], want[4], ended[1])):
         return False
     if ended[:3] == want[:3]:
@@ -294,6 +306,17 @@ def is_right(arguments, kind, ended, want):
     if kind == "accept":
         return ended[:3] == (3, b"", NO_NETWORK)
     return kind in READS and is_unread(ended, want) or kind in WRITES and is_unwritten(ended, want)
+
+
+def is_reduced(kind, ended, want):
+    """Whether a reduction ended as it may: with a whole session or none, whatever it says of that."""
+    (*given, files), (*due, whole) = ended, want
+    if given == due:
+        return files == whole
+    word, status = {"allocation": (b"memory", 4)}.get(kind, (b"read", 3) if kind in READS else (b"write", 3))
+    said = {(status, b"monitor: " + word + b"\n"), *([(3, b"monitor: write\n")] if kind in WRITES else [])}
+    is_said = (given[0], given[2]) in said
+    return is_said and due[1].startswith(given[1]) and files in ({}, whole)
 
 
 def is_unread(ended, want):

@@ -88,7 +88,7 @@ class Runs:
             "judge by workers": ["judge", "--workers", "3", *long], "explore": ["explore", *long],
             "draw": ["draw", *long], "check, of a report that doesn't end": ["check", SESSION, "-", LEFT, RIGHT],
             "judge, of a stream that doesn't end": ["judge", SESSION, "-", RIGHT], "infer": ["infer", "-"],
-            "a bundle that doesn't end": [],
+            "reduce": ["reduce", SESSION, "-", RIGHT, "--to", "reduced"], "a bundle that doesn't end": [],
         }
         for name, words in runs.items():
             yield name, lambda words=words: self.end(["--max-time", "1", *words]), (6, "", LINE)
