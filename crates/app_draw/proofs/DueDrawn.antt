@@ -82,7 +82,8 @@ module _ (options : Options) (document : List ℕ) (scope : Scope) (old new : Op
       → DrawsDue (report_text report) wholes scope (inquiry_of options document) result old new
       → OfOwnDrawing lefts scope (inquiry_of options document) result old new
   lifted result other left =
-      own_of_files options document document scope old new refl lefts wholes are result (own_here result left other)
+      own_of_files options document document scope old new (λ limit. refl) lefts wholes are result
+      (own_here result left other)
 
   -- the report is drawn by the bytes that were read
   pub own_drawn : (result : Result DrawOutcome EngineFault)

@@ -163,7 +163,7 @@ module _ (options : Options) (read document : List ℕ) (scope : Scope) (old new
     own_of_files files lefts are result own,
   )
   of_files files lefts are result (inr (beside, claimed)) = inr (
-    λ alone. beside (streams_alone options document read (length files) (length lefts) (sym same)
+    λ alone. beside (streams_alone options document read (length files) (length lefts) (λ limit. sym (same limit))
         (zip_length files lefts are) alone),
     claimed_of_files files lefts are result claimed,
   )

@@ -1,8 +1,8 @@
 -- Documents with one outline have one report; so have two that are too long.
 use Rattle.std.proofs.Common.{◌≡◌, ℕ, ◌<◌, List, length, refl, sym, ◌∙◌, Err, lt-ltb}
 use Rattle.std.specs.Prelude.{Option, Bool}
-use Rattle.def_format.specs.Documents.{Document, DocumentFault, Long, Json, Shape, Processes, Name, NameTwice, Vars, Predicates, Width, OtherVersion, InPredicate, Options, IsDocument, IsRefusedDocument, inquiry_of, outline_of_inquiry}
-use Rattle.def_format.specs.Limits.{document_byte_limit}
+use Rattle.def_format.specs.Documents.{Document, DocumentFault, Long, Json, Shape, Processes, Name, NameTwice, Vars, Predicates, Width, OtherVersion, InPredicate, Options, IsDocument, IsDocumentWithin, IsRefusedDocument, IsRefusedWithin, inquiry_of, outline_within}
+use Rattle.def_format.specs.Limits.{document_byte_limit, process_limit}
 use Rattle.def_judgement.specs.Judgements.{IsJudgement, of_refused, of_read, RawStream}
 use Rattle.def_format.specs.Readings.{Trace}
 use Rattle.def_format.specs.OtherTexts.{Finding}
@@ -16,11 +16,11 @@ use Rattle.app_host.specs.FileSources.{SameOutline}
 
 -- ---- bytes with one outline
 
-pub same_document : (options : Options) (a b : List ℕ) (document : Document) → SameOutline options a b
-    → IsDocument (inquiry_of options a) document → IsDocument (inquiry_of options b) document
-same_document options a b document e h = record {
+pub document_within : (limit : ℕ) (options : Options) (a b : List ℕ) (document : Document) → SameOutline options a b
+    → IsDocumentWithin limit (inquiry_of options a) document → IsDocumentWithin limit (inquiry_of options b) document
+document_within limit options a b document e h = record {
   outline = h.outline;
-  sound = sym e ∙ h.sound;
+  sound = sym (e limit) ∙ h.sound;
   names = h.names;
   initial = h.initial;
   width = h.width;
@@ -29,22 +29,26 @@ same_document options a b document e h = record {
   predicates = h.predicates;
 }
 
-pub same_refusal : (options : Options) (a b : List ℕ) (fault : DocumentFault) → SameOutline options a b
-    → IsRefusedDocument (inquiry_of options a) fault → IsRefusedDocument (inquiry_of options b) fault
-same_refusal options a b Long e h = sym e ∙ h
-same_refusal options a b Json e h = sym e ∙ h
-same_refusal options a b Shape e h = sym e ∙ h
-same_refusal options a b Processes e h = sym e ∙ h
-same_refusal options a b Name e h = sym e ∙ h
-same_refusal options a b NameTwice e h = sym e ∙ h
-same_refusal options a b Vars e h = sym e ∙ h
-same_refusal options a b Predicates e h = sym e ∙ h
-same_refusal options a b Width e h = sym e ∙ h
-same_refusal options a b OtherVersion e h =
-    record { outline = h.outline; sound = sym e ∙ h.sound; spelled = h.spelled; none = h.none }
-same_refusal options a b (InPredicate number inner at) e h = record {
+pub same_document : (options : Options) (a b : List ℕ) (document : Document) → SameOutline options a b
+    → IsDocument (inquiry_of options a) document → IsDocument (inquiry_of options b) document
+same_document = document_within process_limit
+
+pub refusal_within : (limit : ℕ) (options : Options) (a b : List ℕ) (fault : DocumentFault) → SameOutline options a b
+    → IsRefusedWithin limit (inquiry_of options a) fault → IsRefusedWithin limit (inquiry_of options b) fault
+refusal_within limit options a b Long e h = sym (e limit) ∙ h
+refusal_within limit options a b Json e h = sym (e limit) ∙ h
+refusal_within limit options a b Shape e h = sym (e limit) ∙ h
+refusal_within limit options a b Processes e h = sym (e limit) ∙ h
+refusal_within limit options a b Name e h = sym (e limit) ∙ h
+refusal_within limit options a b NameTwice e h = sym (e limit) ∙ h
+refusal_within limit options a b Vars e h = sym (e limit) ∙ h
+refusal_within limit options a b Predicates e h = sym (e limit) ∙ h
+refusal_within limit options a b Width e h = sym (e limit) ∙ h
+refusal_within limit options a b OtherVersion e h =
+    record { outline = h.outline; sound = sym (e limit) ∙ h.sound; spelled = h.spelled; none = h.none }
+refusal_within limit options a b (InPredicate number inner at) e h = record {
   outline = h.outline;
-  sound = sym e ∙ h.sound;
+  sound = sym (e limit) ∙ h.sound;
   before = h.before;
   refused = h.refused;
   after = h.after;
@@ -53,6 +57,10 @@ same_refusal options a b (InPredicate number inner at) e h = record {
   stands = h.stands;
   none_before = h.none_before;
 }
+
+pub same_refusal : (options : Options) (a b : List ℕ) (fault : DocumentFault) → SameOutline options a b
+    → IsRefusedDocument (inquiry_of options a) fault → IsRefusedDocument (inquiry_of options b) fault
+same_refusal = refusal_within process_limit
 
 pub same_judgement : (options : Options) (a b : List ℕ) (streams : List RawStream) (report : Report)
     → SameOutline options a b
@@ -92,12 +100,12 @@ pub same_truth : (options : Options) (a b : List ℕ) (streams : List RawStream)
 same_truth options a b streams report e truth = record {
   agrees = truth.agrees;
   judged = λ document traces holds.
-      truth.judged document traces (same_holding options b a streams document traces (sym e) holds);
+      truth.judged document traces (same_holding options b a streams document traces (λ limit. sym (e limit)) holds);
   headline = λ document traces holds.
-      truth.headline document traces (same_holding options b a streams document traces (sym e) holds);
+      truth.headline document traces (same_holding options b a streams document traces (λ limit. sym (e limit)) holds);
   headline_beyond_width = λ asked document traces holds.
       truth.headline_beyond_width asked document traces
-      (same_holding options b a streams document traces (sym e) holds);
+      (same_holding options b a streams document traces (λ limit. sym (e limit)) holds);
 }
 
 pub same_finding : (options : Options) (a b report : List ℕ) (streams : List RawStream) (finding : Finding)
@@ -145,11 +153,11 @@ same_report_text options a b inputs IsSaid text e h = record {
 
 -- ---- documents that are too long
 
-long_outline : (options : Options) (bytes : List ℕ) → document_byte_limit < length bytes
-    → outline_of_inquiry (inquiry_of options bytes) ≡ Err Long
-unfolding outline_of_inquiry
-long_outline options bytes long = rw (lt-ltb document_byte_limit (length bytes) long) refl
+long_outline : (limit : ℕ) (options : Options) (bytes : List ℕ) → document_byte_limit < length bytes
+    → outline_within limit (inquiry_of options bytes) ≡ Err Long
+unfolding outline_within
+long_outline limit options bytes long = rw (lt-ltb document_byte_limit (length bytes) long) refl
 
 pub both_long : (options : Options) (a b : List ℕ) → document_byte_limit < length a → document_byte_limit < length b
     → SameOutline options a b
-both_long options a b long other = long_outline options a long ∙ sym (long_outline options b other)
+both_long options a b long other limit = long_outline limit options a long ∙ sym (long_outline limit options b other)

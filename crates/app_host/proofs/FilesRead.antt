@@ -184,7 +184,7 @@ of_document options file read P Q is go h = by file.source.bytes refl is.all
         all = subst (λ (known : Option (List ℕ)). IfSome known (λ bytes. read ≡ bytes)) (sym same) tt;
         ended = is.ended;
       };
-      holds = go read refl h;
+      holds = go read (λ limit. refl) h;
     }
     by (Some bytes) same (inl equal) = record {
       bytes = bytes;
@@ -192,7 +192,7 @@ of_document options file read P Q is go h = by file.source.bytes refl is.all
         all = subst (λ (known : Option (List ℕ)). IfSome known (λ others. bytes ≡ others)) (sym same) refl;
         ended = λ fails. subst (λ (r : List ℕ). document_byte_limit < length r) equal (is.ended fails);
       };
-      holds = go bytes (subst (λ (r : List ℕ). SameOutline options read r) equal refl) h;
+      holds = go bytes (subst (λ (r : List ℕ). SameOutline options read r) equal (λ limit. refl)) h;
     }
     by (Some bytes) same (inr long) = record {
       bytes = bytes;

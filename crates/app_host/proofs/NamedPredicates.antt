@@ -112,7 +112,7 @@ module _ (fail_on : List Condition) (options : Options) (read document : List �
     (go : (ending : Ending) → P (inquiry_of options read) ending old new
     → Q (inquiry_of options document) ending old new) where
   has_same : HasNamed fail_on (inquiry_of options read) → HasNamed fail_on (inquiry_of options document)
-  has_same has = λ other is. has other (same_document options document read other (sym same) is)
+  has_same has = λ other is. has other (same_document options document read other (λ limit. sym (same limit)) is)
 
   pub named_of_file : (ending : Ending) → OfNamed fail_on P (inquiry_of options read) ending old new
       → OfNamed fail_on Q (inquiry_of options document) ending old new

@@ -2,7 +2,7 @@
 use Rattle.std.specs.Prelude.{◌≡◌, ◌<◌, ◌⊎◌, ℕ, true, false, List, length, Option, Some, None, IfSome}
 use Rattle.std.specs.Io.KnownBytes.{Keeps}
 use Rattle.app_arguments.specs.Statuses.{Ending, Failed, File, MemoryFailure, ReadFailure}
-use Rattle.def_format.specs.Documents.{Options, inquiry_of, outline_of_inquiry}
+use Rattle.def_format.specs.Documents.{Options, inquiry_of, outline_within}
 use Rattle.def_format.specs.Limits.{document_byte_limit}
 use Rattle.def_judgement.specs.Writes.{Source}
 
@@ -19,9 +19,11 @@ pub record Knows (file left : Source) : Type 0 where
   pub bytes : IfSome file.bytes (λ bytes. left.bytes ≡ Some bytes)
   pub fails : IfSome file.fails (λ fails. left.fails ≡ Some fails)
 
--- with these options the documents and the refusals of the one are those of the other
+-- with these options the documents and the refusals of the one are those of the other, however many processes there may
+-- be
 abbrev pub SameOutline : Options → List ℕ → List ℕ → Type 0
-SameOutline options a b = outline_of_inquiry (inquiry_of options a) ≡ outline_of_inquiry (inquiry_of options b)
+SameOutline options a b =
+    (limit : ℕ) → outline_within limit (inquiry_of options a) ≡ outline_within limit (inquiry_of options b)
 
 -- The bytes that were read of a document's source are all that it had left, if that is known, or both are too many; and
 -- they were read to its end, unless they are too many.

@@ -118,8 +118,8 @@ module _ (files : List ℕ → File) (asked : Asked) (folder : List ℕ) (option
       is_form,
       used,
       subst (λ (all : List (List ℕ)). AreFilesOf (bytes_in files) all used) are_names are_used,
-      owed_of_files options bytes bytes (sources_of (map files (streams_in folder document.names))) lefts known refl
-          form used (λ other. other ≡ report) text (inl owed),
+      owed_of_files options bytes bytes (sources_of (map files (streams_in folder document.names))) lefts known
+          (λ limit. refl) form used (λ other. other ≡ report) text (inl owed),
     ),
   )
 

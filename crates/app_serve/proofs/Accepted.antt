@@ -162,9 +162,9 @@ accepted_of_file : (format : Format) (options : Options) (read document : List �
 accepted_of_file format options read document G IsSaid text same h = record {
   inputs = h.inputs;
   accepted = h.accepted;
-  one_each = λ other is. h.one_each other (same_document options document read other (sym same) is);
+  one_each = λ other is. h.one_each other (same_document options document read other (λ limit. sym (same limit)) is);
   none_refused = λ fault refused.
-      h.none_refused fault (same_refusal options document read fault (sym same) refused);
+      h.none_refused fault (same_refusal options document read fault (λ limit. sym (same limit)) refused);
   is_text = same_text_in format options read document h.inputs IsSaid text same h.is_text;
 }
 

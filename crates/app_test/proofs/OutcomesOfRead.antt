@@ -2,7 +2,7 @@
 use Rattle.std.proofs.Common.{◌≡◌, ℕ, List, [], ◌∷◌, map, None, Ok, Err, ap, inl, inr, refl, sym, subst, ◌∙◌}
 use Rattle.std.specs.Prelude.{IfOk, Result}
 use Rattle.std.specs.List.{AllZip}
-use Rattle.def_format.specs.Documents.{Document, DocumentFault, Inquiry, IsDocument, IsRefusedDocument, Options, inquiry_of, outline_of_inquiry}
+use Rattle.def_format.specs.Documents.{Document, DocumentFault, Inquiry, IsDocument, IsRefusedDocument, Options, inquiry_of, outline_within}
 use Rattle.def_format.specs.Reports.{Report}
 use Rattle.def_judgement.specs.OneReport.{DocumentNotRefused, OneDocument}
 use Rattle.def_judgement.specs.Writes.{Source}
@@ -26,7 +26,8 @@ use Rattle.app_test.specs.declared.job.Job.{Job}
 
 -- an inquiry of the whole document has the outline of that of the bytes that were read
 abbrev HasOutlineOf : Options → (read : List ℕ) → Inquiry → Type 0
-HasOutlineOf options read inquiry = outline_of_inquiry (inquiry_of options read) ≡ outline_of_inquiry inquiry
+HasOutlineOf options read inquiry =
+    (limit : ℕ) → outline_within limit (inquiry_of options read) ≡ outline_within limit inquiry
 
 whole_document : (options : Options) (file : File) (read : List ℕ) → IsReadOf read file.source
     → OfDocument options file (HasOutlineOf options read)
@@ -75,9 +76,9 @@ moved files options wishes folder read bytes same (Unnamed name) found =
 moved files options wishes folder read bytes same (Reported report) found = record {
   inputs = found.inputs;
   of_document = λ document is_document.
-      found.of_document document (same_document options bytes read document (sym same) is_document);
+      found.of_document document (same_document options bytes read document (λ limit. sym (same limit)) is_document);
   of_refused = λ fault refused.
-      found.of_refused fault (same_refusal options bytes read fault (sym same) refused);
+      found.of_refused fault (same_refusal options bytes read fault (λ limit. sym (same limit)) refused);
   given = record {
     streams = found.given.streams;
     are_given = found.given.are_given;

@@ -55,9 +55,11 @@ clear_names names distinct process var p v q w a b =
 -- ---- the names of a document with no fault
 
 -- no two processes have one name
-pub processes_once : (outline : Outline) → outline_fault outline ≡ None → has_twice (process_names outline) ≡ false
-processes_once outline e =
-    (or_false (has_twice (process_names outline)) (has_twice (predicate_names outline)) (faultless outline e).once).0
+pub processes_once : (limit : ℕ) (outline : Outline) → outline_fault limit outline ≡ None
+    → has_twice (process_names outline) ≡ false
+processes_once limit outline e =
+    (or_false (has_twice (process_names outline)) (has_twice (predicate_names outline))
+    (faultless limit outline e).once).0
 
 others_differ : (text : List ℕ) (others : List (List ℕ)) → is_one_of others text ≡ false
     → AllByRecursion (λ (other : List ℕ). bytes_eq text other ≡ false) others

@@ -7,7 +7,7 @@ use Rattle.std.specs.Cmp.Lexicographic.{slice_cmp}
 use Rattle.std.proofs.lemmas.List.Elements.{All-cons, All-nil}
 use Rattle.serde_json.specs.Data.{Data, null, boolean, number, string, array, object, Items, no_items, item, Members, no_members, member}
 use Rattle.serde_json.specs.Find.{get_member, as_str, as_object, as_array}
-use Rattle.def_format.specs.Documents.{Outline, DocumentFault, Long, pair_of, each, field, named_object, objects, outline_of_fields, outline_of, outline_fault, checked_outline, outline_of_json, Inquiry, outline_of_inquiry, inquiry_json, names_of_outline, has_twice}
+use Rattle.def_format.specs.Documents.{Outline, DocumentFault, Long, pair_of, each, field, named_object, objects, outline_of_fields, outline_of, outline_fault, checked_outline, outline_of_json, Inquiry, outline_within, inquiry_json, names_of_outline, has_twice}
 use Rattle.def_format.specs.Laws.{AreClear}
 use Rattle.def_format.specs.Lists.{unless}
 use Rattle.def_format.specs.Names.{ProcessNames}
@@ -114,41 +114,41 @@ ordered_outline value h =
 -- ---- the outline of a document's bytes
 
 -- an outline with no fault, with variables whose names ascend
-record IsClearOutline (outline : Outline) : Type 0 where
+record IsClearOutline (limit : ℕ) (outline : Outline) : Type 0 where
   ordered : AllHaveOrderedVars outline
-  faultless : outline_fault outline ≡ None
+  faultless : outline_fault limit outline ≡ None
 
-abbrev HoldsOk : Result Outline DocumentFault → Type 0
-HoldsOk (Ok outline) = IsClearOutline outline
-HoldsOk (Err fault) = ⊤
+abbrev HoldsOk : ℕ → Result Outline DocumentFault → Type 0
+HoldsOk limit (Ok outline) = IsClearOutline limit outline
+HoldsOk limit (Err fault) = ⊤
 
-clear_checked : (o : Option Outline) → Holds AllHaveOrderedVars o → HoldsOk (checked_outline o)
-clear_checked None h = tt
-clear_checked (Some outline) h = go (outline_fault outline) refl
+clear_checked : (limit : ℕ) (o : Option Outline) → Holds AllHaveOrderedVars o → HoldsOk limit (checked_outline limit o)
+clear_checked limit None h = tt
+clear_checked limit (Some outline) h = go (outline_fault limit outline) refl
   where
-    go : (fault : Option DocumentFault) → outline_fault outline ≡ fault → HoldsOk (unless fault outline)
+    go : (fault : Option DocumentFault) → outline_fault limit outline ≡ fault → HoldsOk limit (unless fault outline)
     go None e = record { ordered = h; faultless = e }
     go (Some fault) e = tt
 
-clear_json : (o : Option Data) → Holds IsOrdered o → HoldsOk (outline_of_json o)
-clear_json None h = tt
-clear_json (Some value) h = clear_checked (outline_of value) (ordered_outline value h)
+clear_json : (limit : ℕ) (o : Option Data) → Holds IsOrdered o → HoldsOk limit (outline_of_json limit o)
+clear_json limit None h = tt
+clear_json limit (Some value) h = clear_checked limit (outline_of value) (ordered_outline value h)
 
-clear_if : (b : Bool) (fault : DocumentFault) (r : Result Outline DocumentFault) → HoldsOk r
-    → HoldsOk (if b then Err fault else r)
-clear_if true fault r h = tt
-clear_if false fault r h = h
+clear_if : (limit : ℕ) (b : Bool) (fault : DocumentFault) (r : Result Outline DocumentFault) → HoldsOk limit r
+    → HoldsOk limit (if b then Err fault else r)
+clear_if limit true fault r h = tt
+clear_if limit false fault r h = h
 
-clear_inquiry : (inquiry : Inquiry) → HoldsOk (outline_of_inquiry inquiry)
-unfolding outline_of_inquiry
-clear_inquiry inquiry =
-    clear_if _ Long (outline_of_json (inquiry_json inquiry)) (clear_json (inquiry_json inquiry)
-    (ordered_inquiry inquiry))
+clear_inquiry : (limit : ℕ) (inquiry : Inquiry) → HoldsOk limit (outline_within limit inquiry)
+unfolding outline_within
+clear_inquiry limit inquiry =
+    clear_if limit _ Long (outline_of_json limit (inquiry_json inquiry))
+    (clear_json limit (inquiry_json inquiry) (ordered_inquiry inquiry))
 
 -- an outline that is read has no fault
-pub sound_is_faultless : (inquiry : Inquiry) (outline : Outline) → outline_of_inquiry inquiry ≡ Ok outline
-    → outline_fault outline ≡ None
-sound_is_faultless inquiry outline e = (subst HoldsOk e (clear_inquiry inquiry)).faultless
+pub sound_is_faultless : (limit : ℕ) (inquiry : Inquiry) (outline : Outline)
+    → outline_within limit inquiry ≡ Ok outline → outline_fault limit outline ≡ None
+sound_is_faultless limit inquiry outline e = (subst (HoldsOk limit) e (clear_inquiry limit inquiry)).faultless
 
 -- ---- its names
 
@@ -170,13 +170,13 @@ vars_differ (process ∷ processes) h =
     All-cons HasDifferentVars (record { name = process.0; vars = keys process.1 }) _ (keys_differ process.1 h.0)
     (vars_differ processes h.1)
 
-pub clear_document : (inquiry : Inquiry) (outline : Outline) → outline_of_inquiry inquiry ≡ Ok outline
+pub clear_document : (limit : ℕ) (inquiry : Inquiry) (outline : Outline) → outline_within limit inquiry ≡ Ok outline
     → AreClear (names_of_outline outline)
-clear_document inquiry outline e =
-    let clear : IsClearOutline outline = subst HoldsOk e (clear_inquiry inquiry) in
+clear_document limit inquiry outline e =
+    let clear : IsClearOutline limit outline = subst (HoldsOk limit) e (clear_inquiry limit inquiry) in
     clear_names (names_of_outline outline) (record {
       processes =
           names_differ (names_of_outline outline) (ap has_twice (written_names outline.processes)
-          ∙ processes_once outline clear.faultless);
+          ∙ processes_once limit outline clear.faultless);
       variables = vars_differ outline.processes clear.ordered;
     })

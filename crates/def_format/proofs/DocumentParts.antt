@@ -56,8 +56,8 @@ all_asked names (one ∷ written) (predicate ∷ predicates) zipped e =
 
 pub lawful_parts : (inquiry : Inquiry) (document : Document) → IsDocument inquiry document → HasLawfulParts document
 lawful_parts inquiry document is =
-    let clear : IsFaultless is.outline =
-    faultless is.outline (sound_is_faultless inquiry is.outline is.sound) in
+    let clear : IsFaultless process_limit is.outline =
+    faultless process_limit is.outline (sound_is_faultless process_limit inquiry is.outline is.sound) in
     let processes = within 1 process_limit (length is.outline.processes) clear.processes in
     let predicates = within 1 predicate_limit (length is.outline.predicates) clear.predicates in
     let names = and_parts (list_all is_name (process_names is.outline)

@@ -12,7 +12,7 @@ use Rattle.def_format.specs.Names.{ProcessNames}
 use Rattle.def_format.specs.Records.{RecordFault, Json, Shape, Join, UnknownProcess, UnknownVar, Value, MessageId, LineRecord, Joins, Happens, Ends, record_of}
 use Rattle.def_format.specs.Readings.{Ended, Open, reading, result_of, Unended}
 use Rattle.def_format.specs.Documents as documents
-use Rattle.def_format.specs.Documents.{DocumentFault, Options, Outline, inquiry_of, names_of_outline, outline_of_inquiry, plain, width_of}
+use Rattle.def_format.specs.Documents.{DocumentFault, Options, Outline, inquiry_of, names_of_outline, outline_of_inquiry, outline_within, plain, width_of}
 use Rattle.def_format.specs.Sessions.{session, Taken, Absent, bytes_of, Piece, AtEnd, Broken}
 use Rattle.def_format.specs.Reports.{Possibly, Definitely, Judged, Refused, Cycle, report_text}
 use Rattle.def_format.specs.OtherTexts.{snapshot_text, check_text, NotRead}
@@ -23,7 +23,7 @@ names = record { name = codes "a"; vars = codes "x" ∷ [] } ∷ record { name =
 
 -- what computing a line's value opens
 unfoldable pub on_lines : ⊤
-unfolding serde_json_on_literals record_of is_utf8 chars outline_of_inquiry digits
+unfolding serde_json_on_literals record_of is_utf8 chars outline_within digits
 on_lines = tt
 
 -- ---- lines

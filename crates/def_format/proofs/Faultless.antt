@@ -5,7 +5,7 @@ use Rattle.std.specs.List.{list_all}
 use Rattle.std.proofs.lemmas.Bool.{not-false}
 use Rattle.serde_json.specs.Data.{Members}
 use Rattle.def_format.specs.Documents.{Outline, DocumentFault, outline_fault, is_within, has_twice, process_names, predicate_names, vars_fit, width_fits}
-use Rattle.def_format.specs.Limits.{process_limit, predicate_limit}
+use Rattle.def_format.specs.Limits.{predicate_limit}
 use Rattle.def_format.specs.Names.{is_name}
 use Rattle.def_format.specs.Records.{keys}
 
@@ -15,9 +15,9 @@ none_applies : (b : Bool) (fault : DocumentFault) (rest : Option DocumentFault) 
 none_applies true fault rest e = cc
 none_applies false fault rest e = (refl, e)
 
--- each test of the table of faults is passed
-pub record IsFaultless (outline : Outline) : Type 0 where
-  pub processes : is_within 1 process_limit (length outline.processes) ≡ true
+-- each test of the table of faults is passed, if there may be this many processes
+pub record IsFaultless (limit : ℕ) (outline : Outline) : Type 0 where
+  pub processes : is_within 1 limit (length outline.processes) ≡ true
   pub names : (list_all is_name (process_names outline)
       && list_all (λ (process : List ℕ × Members). list_all is_name (keys process.1)) outline.processes
       && list_all is_name (predicate_names outline)) ≡ true
@@ -26,8 +26,8 @@ pub record IsFaultless (outline : Outline) : Type 0 where
   pub predicates : is_within 1 predicate_limit (length outline.predicates) ≡ true
   pub width : width_fits outline.width ≡ true
 
-pub faultless : (outline : Outline) → outline_fault outline ≡ None → IsFaultless outline
-faultless outline e =
+pub faultless : (limit : ℕ) (outline : Outline) → outline_fault limit outline ≡ None → IsFaultless limit outline
+faultless limit outline e =
     let processes = none_applies _ _ _ e in
     let names = none_applies _ _ _ processes.1 in
     let once = none_applies _ _ _ names.1 in

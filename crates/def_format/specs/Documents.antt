@@ -101,10 +101,11 @@ abbrev pub width_fits : Option Data → Bool
 width_fits None = true
 width_fits (Some value) = unwrap_or (option_map is_width (whole_number value)) false
 
--- the first fault of a document of right shape, but for those in predicates and that of its version
-abbrev pub outline_fault : Outline → Option DocumentFault
-outline_fault outline = first_that_applies (
-    (not (is_within 1 process_limit (length outline.processes)), Processes)
+-- the first fault of a document of right shape that may have this many processes, but for those in predicates and that
+-- of its version
+abbrev pub outline_fault : ℕ → Outline → Option DocumentFault
+outline_fault limit outline = first_that_applies (
+    (not (is_within 1 limit (length outline.processes)), Processes)
     ∷ (
       not (list_all is_name (process_names outline)
           && list_all (λ (process : List ℕ × Members). list_all is_name (keys process.1)) outline.processes
@@ -117,13 +118,13 @@ outline_fault outline = first_that_applies (
     ∷ (not (width_fits outline.width), Width)
     ∷ [])
 
-abbrev pub checked_outline : Option Outline → Result Outline DocumentFault
-checked_outline None = Err Shape
-checked_outline (Some outline) = unless (outline_fault outline) outline
+abbrev pub checked_outline : ℕ → Option Outline → Result Outline DocumentFault
+checked_outline limit None = Err Shape
+checked_outline limit (Some outline) = unless (outline_fault limit outline) outline
 
-abbrev pub outline_of_json : Option Data → Result Outline DocumentFault
-outline_of_json None = Err Json
-outline_of_json (Some value) = checked_outline (outline_of value)
+abbrev pub outline_of_json : ℕ → Option Data → Result Outline DocumentFault
+outline_of_json limit None = Err Json
+outline_of_json limit (Some value) = checked_outline limit (outline_of value)
 
 -- ---- options
 
@@ -214,11 +215,15 @@ plain bytes = inquiry_of no_options bytes
 abbrev pub inquiry_json : Inquiry → Option Data
 inquiry_json inquiry = option_map (with_options inquiry.options) (json_value inquiry.bytes)
 
--- The outline of a document with what is asked, or the first fault but for those in predicates and that of its version.
--- Whether the document is too long is decided by its own bytes, whatever is asked.
-unfoldable pub outline_of_inquiry : Inquiry → Result Outline DocumentFault
-outline_of_inquiry inquiry =
-    if nat_lt document_byte_limit (length inquiry.bytes) then Err Long else outline_of_json (inquiry_json inquiry)
+-- The outline of a document with what is asked, if it may have this many processes, or the first fault but for those in
+-- predicates and that of its version. Whether the document is too long is decided by its own bytes, whatever is asked.
+unfoldable pub outline_within : ℕ → Inquiry → Result Outline DocumentFault
+outline_within limit inquiry =
+    if nat_lt document_byte_limit (length inquiry.bytes) then Err Long else outline_of_json limit (inquiry_json inquiry)
+
+-- that of a session's document
+abbrev pub outline_of_inquiry : Inquiry → Result Outline DocumentFault
+outline_of_inquiry = outline_within process_limit
 
 -- ---- the document
 
@@ -266,10 +271,10 @@ abbrev pub IsNamedPredicate : List ProcessNames → List ℕ × List ℕ → Nam
 IsNamedPredicate names written predicate = (predicate.name ≡ written.0)
     × IsPredicate names written.1 predicate.predicate
 
--- the document of the inquiry's bytes, with what is asked, is this one
-pub record IsDocument (inquiry : Inquiry) (document : Document) : Type 0 where
+-- the document of the inquiry's bytes, with what is asked, is this one, if it may have this many processes
+pub record IsDocumentWithin (limit : ℕ) (inquiry : Inquiry) (document : Document) : Type 0 where
   pub outline : Outline
-  pub sound : outline_of_inquiry inquiry ≡ Ok outline
+  pub sound : outline_within limit inquiry ≡ Ok outline
   pub names : document.names ≡ names_of_outline outline
   pub initial : document.initial ≡ initial_of outline
   pub width : document.width ≡ width_of outline.width
@@ -277,31 +282,40 @@ pub record IsDocument (inquiry : Inquiry) (document : Document) : Type 0 where
   pub beyond_width : document.beyond_width ≡ inquiry.options.beyond_width
   pub predicates : AllZip (IsNamedPredicate (names_of_outline outline)) outline.predicates document.predicates
 
+-- it is a session's
+abbrev pub IsDocument : Inquiry → Document → Type 0
+IsDocument = IsDocumentWithin process_limit
+
 -- a text, by the names of the outline, is a predicate
 abbrev pub IsSpelled : Outline → List ℕ × List ℕ → Type 0
 IsSpelled outline written = (predicate : Predicate) × IsPredicate (names_of_outline outline) written.1 predicate
 
 -- a predicate of a sound outline is refused, and those before it aren't
-pub record HasRefusedPredicate (inquiry : Inquiry) (number : ℕ) (fault : PredicateFault) (at : ℕ) : Type 0 where
-  pub outline : Outline
-  pub sound : outline_of_inquiry inquiry ≡ Ok outline
-  pub before : List (List ℕ × List ℕ)
-  pub refused : List ℕ × List ℕ
-  pub after : List (List ℕ × List ℕ)
-  pub parts : outline.predicates ≡ before ++ refused ∷ after
-  pub place : number ≡ length before + 1
-  pub stands : IsRefusedPredicate (names_of_outline outline) refused.1 fault at
-  pub none_before : AllByRecursion (IsSpelled outline) before
+pub record HasRefusedPredicate (limit : ℕ) (inquiry : Inquiry) (number : ℕ) (fault : PredicateFault) (at : ℕ) : Type 0
+  where
+    pub outline : Outline
+    pub sound : outline_within limit inquiry ≡ Ok outline
+    pub before : List (List ℕ × List ℕ)
+    pub refused : List ℕ × List ℕ
+    pub after : List (List ℕ × List ℕ)
+    pub parts : outline.predicates ≡ before ++ refused ∷ after
+    pub place : number ≡ length before + 1
+    pub stands : IsRefusedPredicate (names_of_outline outline) refused.1 fault at
+    pub none_before : AllByRecursion (IsSpelled outline) before
 
 -- no predicate of a sound outline is refused, and its field says no version
-pub record HasOtherVersion (inquiry : Inquiry) : Type 0 where
+pub record HasOtherVersion (limit : ℕ) (inquiry : Inquiry) : Type 0 where
   pub outline : Outline
-  pub sound : outline_of_inquiry inquiry ≡ Ok outline
+  pub sound : outline_within limit inquiry ≡ Ok outline
   pub spelled : AllByRecursion (IsSpelled outline) outline.predicates
   pub none : version_of outline.version ≡ None
 
--- the inquiry is refused with this fault of its document
+-- the inquiry is refused with this fault of its document, if that may have this many processes
+abbrev pub IsRefusedWithin : ℕ → Inquiry → DocumentFault → Type 0
+IsRefusedWithin limit inquiry (InPredicate n fault at) = HasRefusedPredicate limit inquiry n fault at
+IsRefusedWithin limit inquiry OtherVersion = HasOtherVersion limit inquiry
+IsRefusedWithin limit inquiry fault = outline_within limit inquiry ≡ Err fault
+
+-- it is refused as that of a session
 abbrev pub IsRefusedDocument : Inquiry → DocumentFault → Type 0
-IsRefusedDocument inquiry (InPredicate n fault at) = HasRefusedPredicate inquiry n fault at
-IsRefusedDocument inquiry OtherVersion = HasOtherVersion inquiry
-IsRefusedDocument inquiry fault = outline_of_inquiry inquiry ≡ Err fault
+IsRefusedDocument = IsRefusedWithin process_limit

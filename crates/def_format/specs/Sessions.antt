@@ -99,8 +99,12 @@ abbrev pub or_traces : Option SessionFault → Result (List Trace) SessionFault 
 or_traces (Some fault) traces = Err fault
 or_traces None traces = traces
 
+-- the session of this many streams with these outcomes, if there may be so many of them as the limit says
+abbrev pub session_within : ℕ → List ProcessNames → ℕ → List StreamResult → Result (List Trace) SessionFault
+session_within limit names streams outcomes =
+    if nat_lt limit streams then Err TooManyStreams
+    else or_traces (first_stream_fault [] outcomes) (traces_from 0 names outcomes)
+
 -- the session of this many streams with these outcomes
 abbrev pub session : List ProcessNames → ℕ → List StreamResult → Result (List Trace) SessionFault
-session names streams outcomes =
-    if nat_lt stream_count_limit streams then Err TooManyStreams
-    else or_traces (first_stream_fault [] outcomes) (traces_from 0 names outcomes)
+session = session_within stream_count_limit

@@ -4,6 +4,7 @@ use Rattle.std.specs.Prelude.{Option, Some, None, Ok, Err}
 use Rattle.std.specs.List.{AllZip, AllByRecursion}
 use Rattle.def_model.specs.Messages.{Version}
 use Rattle.def_model.specs.Predicates.{Predicate}
+use Rattle.def_format.specs.Limits.{process_limit}
 use Rattle.def_format.specs.Documents.{Outline, Document, NamedPredicate, DocumentFault, Long, Json, Shape, Processes, Name, NameTwice, Vars, Predicates, Width, OtherVersion, InPredicate, IsNamedPredicate, IsDocument, IsSpelled, HasRefusedPredicate, HasOtherVersion, IsRefusedDocument, Inquiry, outline_of_inquiry, names_of_outline, initial_of, width_of, version_of}
 use Rattle.def_format.specs.Laws.{AreClear}
 use Rattle.def_format.specs.Names.{ProcessNames}
@@ -50,8 +51,8 @@ one_document_lem inquiry a b p q =
     subst (λ (o : Outline). AllZip (IsNamedPredicate (names_of_outline o)) o.predicates b.predicates) same
     q.predicates in
     let predicates : a.predicates ≡ b.predicates =
-    one_each (names_of_outline p.outline) (clear_document inquiry p.outline p.sound) p.outline.predicates a.predicates
-    b.predicates p.predicates moved in
+    one_each (names_of_outline p.outline) (clear_document process_limit inquiry p.outline p.sound)
+    p.outline.predicates a.predicates b.predicates p.predicates moved in
     let version : a.version ≡ b.version =
     same_version (version_of p.outline.version) a.version b.version p.version
     (ap (λ (o : Outline). version_of o.version) (sym same) ∙ q.version) in
@@ -82,8 +83,8 @@ partner R (z ∷ before) x after (y ∷ ys) h = partner R before x after ys h.1
 data Refusing (inquiry : Inquiry) (fault : DocumentFault) : Type 0 where
   of_outline : outline_of_inquiry inquiry ≡ Err fault → Refusing inquiry fault
   of_predicate : (number : ℕ) (inner : PredicateFault) (at : ℕ) → fault ≡ InPredicate number inner at
-      → HasRefusedPredicate inquiry number inner at → Refusing inquiry fault
-  of_version : fault ≡ OtherVersion → HasOtherVersion inquiry → Refusing inquiry fault
+      → HasRefusedPredicate process_limit inquiry number inner at → Refusing inquiry fault
+  of_version : fault ≡ OtherVersion → HasOtherVersion process_limit inquiry → Refusing inquiry fault
 
 refusing : (inquiry : Inquiry) (fault : DocumentFault) → IsRefusedDocument inquiry fault → Refusing inquiry fault
 refusing inquiry Long h = of_outline h
@@ -159,7 +160,7 @@ record Refuses (outline : Outline) (number : ℕ) (fault : PredicateFault) (at :
   none_before : AllByRecursion (IsSome (names_of_outline outline)) before
 
 refuses : (inquiry : Inquiry) (number : ℕ) (fault : PredicateFault) (at : ℕ)
-    (r : HasRefusedPredicate inquiry number fault at) → Refuses r.outline number fault at
+    (r : HasRefusedPredicate process_limit inquiry number fault at) → Refuses r.outline number fault at
 refuses inquiry number fault at r =
     record {
       before = r.before;
@@ -198,7 +199,7 @@ in_midst P (z ∷ before) x after h = in_midst P before x after h.1
 
 -- no predicate is refused where each is spelled
 spelled_not_refused : (inquiry : Inquiry) (number : ℕ) (fault : PredicateFault) (at : ℕ)
-    → HasRefusedPredicate inquiry number fault at → HasOtherVersion inquiry → ⊥
+    → HasRefusedPredicate process_limit inquiry number fault at → HasOtherVersion process_limit inquiry → ⊥
 spelled_not_refused inquiry number fault at r v =
     let same : v.outline ≡ r.outline = same_outline inquiry v.outline r.outline v.sound r.sound in
     let moved : AllByRecursion (IsSpelled r.outline) r.outline.predicates =

@@ -34,10 +34,11 @@ use Rattle.def_judgement.proofs.StreamResults.{as_many_results}
 -- ---- documents
 
 predicate_is_lawful : (inquiry : Inquiry) (number at : ℕ) (fault : PredicateFault)
-    → HasRefusedPredicate inquiry number fault at
+    → HasRefusedPredicate process_limit inquiry number fault at
     → RefusalIsLawful (document_refusal (documents.InPredicate number fault at))
 predicate_is_lawful inquiry number at fault refused =
-    let clear = faultless refused.outline (sound_is_faultless inquiry refused.outline refused.sound) in
+    let clear = faultless process_limit refused.outline
+    (sound_is_faultless process_limit inquiry refused.outline refused.sound) in
     let few : length refused.outline.predicates ≤ predicate_limit =
     (within 1 predicate_limit (length refused.outline.predicates) clear.predicates).1 in
     let l : length refused.outline.predicates ≡ length refused.before + suc (length refused.after) =

@@ -3,8 +3,7 @@ use Rattle.std.proofs.Common.{◌≡◌, ℕ, suc, ◌+◌, ◌<◌, Bool, true,
 use Rattle.std.specs.Prelude.{nat_lt}
 use Rattle.def_format.specs.Names.{ProcessNames}
 use Rattle.def_format.specs.Readings.{Trace}
-use Rattle.def_format.specs.Sessions.{SessionFault, TooManyStreams, Stream, Taken, Absent, StreamResult, has_joined, stream_fault, fault_or, first_stream_fault, trace_of, traces_from, session}
-use Rattle.def_format.specs.Limits.{stream_count_limit}
+use Rattle.def_format.specs.Sessions.{SessionFault, TooManyStreams, Stream, Taken, Absent, StreamResult, has_joined, stream_fault, fault_or, first_stream_fault, trace_of, traces_from, session_within}
 
 -- a stream reported is one of this many, and a process reported is one of this many
 abbrev pub IsCounted : ℕ → ℕ → SessionFault → Type 0
@@ -78,12 +77,13 @@ counted_absent p (name ∷ names) outcomes streams fault e =
         move : IsCounted streams (suc p + length names) fault → IsCounted streams (p + length (name ∷ names)) fault
         move w = let same : suc p + length names ≡ p + length (name ∷ names) = omega arith in rw same at w
 
-pub counted : (names : List ProcessNames) (streams : ℕ) (outcomes : List StreamResult) (fault : SessionFault)
-    → session names streams outcomes ≡ Err fault → IsCounted (length outcomes) (length names) fault
-counted names streams outcomes fault e =
-    go (nat_lt stream_count_limit streams) (first_stream_fault [] outcomes) refl refl
+pub counted : (most : ℕ) (names : List ProcessNames) (streams : ℕ) (outcomes : List StreamResult)
+    (fault : SessionFault) → session_within most names streams outcomes ≡ Err fault
+    → IsCounted (length outcomes) (length names) fault
+counted most names streams outcomes fault e =
+    go (nat_lt most streams) (first_stream_fault [] outcomes) refl refl
   where
-    go : (b : Bool) (o : Option SessionFault) → nat_lt stream_count_limit streams ≡ b
+    go : (b : Bool) (o : Option SessionFault) → nat_lt most streams ≡ b
         → first_stream_fault [] outcomes ≡ o → IsCounted (length outcomes) (length names) fault
     go true o many at = many_reported fault (rw many at e)
       where

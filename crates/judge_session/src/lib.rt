@@ -31,6 +31,6 @@ pub use fault::EngineFault;
 pub use input::read_upto;
 pub use inquiry::Inquiry;
 pub use refusal::{of_document, stream_word};
-pub use sessions::traces_of;
+pub use sessions::{traces_of, traces_within};
 pub use snapshots::write_snapshot;
 pub use unanswered::{Unanswered, settled};

@@ -54,13 +54,13 @@ traces_short names traces are p = rw (events_at traces p) (short_in (slice_get t
     short_in (Some trace) at = (are.fit p trace at).few_events
 
 pub fits_initial : (names : List ProcessNames) (rows : List (Vec ℤ Global)) (traces : List Trace)
-    → AreInitialRows names (initial_view rows) → AreTraces names traces → FitsInitial rows traces
-fits_initial names rows traces fit are = record {
+    → AreInitialRows names (initial_view rows) → AreTraces names traces → length traces ≤ process_limit
+    → FitsInitial rows traces
+fits_initial names rows traces fit are few = record {
   same = sym (length-map rows (λ (row : Vec ℤ Global). row.items)) ∙ (fit.one_each ∙ sym are.one_each);
   some = let e : length traces ≡ length names = are.one_each in let s : 1 ≤ length names = fit.some in
       omega arith;
-  few = let e : length traces ≡ length names = are.one_each in let s : length names ≤ process_limit = fit.few in
-      omega arith;
+  few = few;
   short = traces_short names traces are;
   vars = λ p trace at.
       let same : trace.process ≡ p = are.process p trace at in

@@ -20,6 +20,7 @@ use super::history::history;
 use super::order::{Order, put_in_order};
 use super::state::value_in_history;
 use super::{BuildFault, Cut, State};
+use def_format::PROCESS_LIMIT;
 use pd_match::{Matched, Place};
 use read_traces::{InitialValues, Numbers, Trace};
 use std::alloc::{AllocError, Global};
@@ -104,7 +105,8 @@ impl<'a> Computation<'a> {
     /// of the traces.
     ///
     /// # Errors
-    /// `Cycle` exactly where some event happened before itself, or `Memory`.
+    /// `Cycle` exactly where some event happened before itself, or `Memory`, also if there are more processes than
+    /// `PROCESS_LIMIT`: a clock has no room for more.
     pub fn build<S: InitialValues>(
         alloc: Global,
         session: &'a S,
@@ -119,6 +121,9 @@ impl<'a> Computation<'a> {
         ensures cycle { IfErr result (λ fault.
             IfSome (cycle_view fault) (IsReportedCycle (computation_view traces.now))) }
     {
+        if traces.len() > PROCESS_LIMIT {
+            return Err(BuildFault::Memory);
+        }
         let initial = session.initial_rows();
         let Order { done, clocks } = put_in_order(alloc, traces, &matched)?;
         if let Some(places) = reported_cycle(alloc, traces, &matched, &done)? {

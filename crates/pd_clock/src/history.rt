@@ -16,14 +16,16 @@ pub(crate) fn history(alloc: Global, start: &[i64], events: &Events) -> Result<N
     values.reserve(start.len().saturating_mul(events.len().saturating_add(1)))?;
     values.extend(start)?;
     for k in 0..events.len() {
-        apply(&mut row, &events.settings(k));
+        apply_settings(&mut row, &events.settings(k));
         values.extend(&row)?;
     }
     Ok(values)
 }
 
-/// Makes the settings, one after another.
-fn apply(row: &mut Vec<i64>, settings: &Settings<'_>)
+/// Makes the settings of an event, one after another, in the values of its process's variables.
+///
+/// It takes time for the settings.
+pub fn apply_settings(row: &mut Vec<i64>, settings: &Settings<'_>)
     requires { AreVars (length row.old.items) settings.now }
     ensures { row.new.items ≡ row_after row.old.items settings.now }
 {

@@ -33,6 +33,7 @@ pub use computation::Computation;
 pub use cut::Cut;
 pub use cycle::reported_cycle;
 pub use fault::BuildFault;
+pub use history::apply_settings;
 pub use order::next_that_can_go;
 pub use pd_match::Place;
 pub use state::State;

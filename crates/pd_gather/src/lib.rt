@@ -8,7 +8,8 @@
 //! is asked again only if its last read gave a byte. An observer may watch the register meanwhile, on one thread more:
 //! it changes nothing of what is read (`read_streams_watched`).
 //!
-//! `session` puts the traces into the order of the processes, or finds the first refusal.
+//! `session` puts the traces into the order of the processes, or finds the first refusal; `session_within` does so for
+//! any number of streams.
 //!
 //! - `input`: what can come of a stream
 //! - `gathered`: the readings of all streams
@@ -60,6 +61,6 @@ pub use read_fault::ReadFault;
 pub use readers::read_stream;
 pub use session_streams::{read_streams, read_streams_watched};
 pub use streams::{Core, order_doesnt_matter};
-pub use traces::session;
+pub use traces::{session, session_within};
 pub use watching::gather_watched;
 pub use whole_bytes::WholeBytes;

@@ -35,7 +35,32 @@ pub fn session(alloc: Global, spec: &Spec, gathered: Gathered) -> Result<Vec<Tra
         → All (ReadingFitsWithin limit (document_view spec.now).names) gathered.readings.items
         → AreTracesWithin limit (document_view spec.now).names traces.items) }
 {
-    if gathered.streams > STREAM_COUNT_LIMIT as u64 {
+    session_within(alloc, STREAM_COUNT_LIMIT as u64, spec, gathered)
+}
+
+/// The same, if there may be this many streams.
+///
+/// It takes time for the square of the number of streams.
+///
+/// # Errors
+/// The same.
+pub fn session_within(
+    alloc: Global,
+    most: u64,
+    spec: &Spec,
+    gathered: Gathered,
+) -> Result<Vec<Trace>, SessionFault>
+    ensures exact { IsSession (sessions.session_within most (document_view spec.now).names gathered.streams
+        (results_view gathered.readings.items)) result }
+    ensures many { most < gathered.streams → result ≡ Err SessionFault.Streams }
+    ensures memory { result ≡ Err SessionFault.Memory →
+        IsOk (sessions.session_within most (document_view spec.now).names gathered.streams
+        (results_view gathered.readings.items)) }
+    ensures fits { IfOk result (λ traces. (limit : ℕ)
+        → All (ReadingFitsWithin limit (document_view spec.now).names) gathered.readings.items
+        → AreTracesWithin limit (document_view spec.now).names traces.items) }
+{
+    if gathered.streams > most {
         return Err(SessionFault::Streams);
     }
     let readings = gathered.readings;

@@ -6,7 +6,7 @@ use Rattle.std.proofs.lemmas.Bool.{leb-true, and_parts}
 use Rattle.std.proofs.lemmas.List.{length-map}
 use Rattle.serde_json.specs.Data.{Data, Members, no_members, member}
 use Rattle.def_format.specs.Documents.{Outline, IsNamedPredicate, outline_fault, is_within, predicate_names, vars_fit, width_fits, is_width, natural, names_of_outline, initial_of, width_of}
-use Rattle.def_format.specs.Limits.{default_width, predicate_limit, process_limit, var_limit, width_limit}
+use Rattle.def_format.specs.Limits.{default_width, predicate_limit, var_limit, width_limit}
 use Rattle.def_format.specs.Names.{ProcessNames, is_name}
 use Rattle.def_format.specs.Records.{keys, values, whole_number}
 use Rattle.def_format.proofs.Faultless.{faultless}
@@ -67,18 +67,17 @@ width_within (Some value) e = go (whole_number value) e
     go (Some (negsuc n)) fits = absurd (true≢false (sym fits))
 
 -- the parts of its document are sound
-pub sound_of : (outline : Outline) → outline_fault outline ≡ None
+pub sound_of : (limit : ℕ) (outline : Outline) → outline_fault limit outline ≡ None
     → IsSound (names_of_outline outline) (initial_of outline) (predicate_names outline) (width_of outline.width)
-sound_of outline e =
-    let clear = faultless outline e in
-    let processes = within 1 process_limit (length outline.processes) clear.processes in
+sound_of limit outline e =
+    let clear = faultless limit outline e in
+    let processes = within 1 limit (length outline.processes) clear.processes in
     let predicates = within 1 predicate_limit (length outline.predicates) clear.predicates in
     let width = width_within outline.width clear.width in
     let names = and_parts _ _ clear.names in
     let first = and_parts _ _ names.0 in
     record {
       some_process = rw (length-map outline.processes entry_in) processes.0;
-      few_processes = rw (length-map outline.processes entry_in) processes.1;
       few_vars = (few_vars outline.processes clear.vars);
       rows = same_lengths outline.processes;
       some_predicate = rw (length-map outline.predicates (λ (predicate : List ℕ × List ℕ). predicate.0)) predicates.0;

@@ -32,7 +32,6 @@ pub rows_fit : (names : List ProcessNames) (initial : List (List ℤ)) (predicat
     → IsSound names initial predicates width → AreInitialRows names initial
 rows_fit names initial predicates width sound = record {
   some = sound.some_process;
-  few = sound.few_processes;
   one_each = as_many initial names sound.rows;
   values = λ p. row_width initial names p sound.rows;
 }

@@ -1,7 +1,7 @@
 -- What holds of the parts of each document.
 use Rattle.std.specs.Prelude.{◌≡◌, ℕ, ◌≤◌, nat_le, ℤ, IsTrue, List, length, map}
 use Rattle.std.specs.List.{list_all}
-use Rattle.def_format.specs.Limits.{predicate_limit, process_limit, var_limit, width_limit}
+use Rattle.def_format.specs.Limits.{predicate_limit, var_limit, width_limit}
 use Rattle.def_format.specs.Names.{ProcessNames, is_name}
 
 -- the length of each row
@@ -17,7 +17,6 @@ vars_of_each names = map (λ (process : ProcessNames). process.vars) names
 pub record IsSound (names : List ProcessNames) (initial : List (List ℤ)) (predicates : List (List ℕ)) (width : ℕ) :
     Type 0 where
   pub some_process : 1 ≤ length names
-  pub few_processes : length names ≤ process_limit
   pub few_vars : IsTrue (list_all (λ (process : ProcessNames). nat_le (length process.vars) var_limit) names)
   -- a row for each process, and in it a value for each variable
   pub rows : lengths initial ≡ lengths (vars_of_each names)

@@ -5,7 +5,7 @@ ghost use Rattle.std.specs.BTreeMap.{keys};
 ghost use Rattle.serde_json.specs.Find.{as_i64};
 ghost use Rattle.serde_json.specs.View.{view};
 ghost use Rattle.def_format.specs.Documents.{has_twice, is_within, outline_fault, predicate_names, process_names, vars_fit, width_fits};
-ghost use Rattle.def_format.specs.Limits.{predicate_limit, process_limit};
+ghost use Rattle.def_format.specs.Limits.{predicate_limit};
 ghost use Rattle.def_format.specs.Names.{is_name};
 ghost use Rattle.pd_spec.specs.Faults.{IsFaultFound};
 ghost use Rattle.pd_spec.specs.Outlines.{process_view, predicate_outline_view, outline_view, has_names};
@@ -14,7 +14,7 @@ use super::SpecFault;
 use super::fields::are_whole;
 use super::outline::{Outline, PredicateOutline, ProcessOutline};
 use super::twice::has_twice;
-use def_format::{PREDICATE_LIMIT, PROCESS_LIMIT, VAR_LIMIT, WIDTH_LIMIT};
+use def_format::{PREDICATE_LIMIT, VAR_LIMIT, WIDTH_LIMIT};
 use pd_pred::is_name;
 use serde_json::{Map, Value};
 use std::alloc::{AllocError, Global};
@@ -109,10 +109,10 @@ fn width_fits(width: Option<&Value>) -> bool
 }
 
 impl Outline<'_> {
-    fn processes_fit(&self) -> bool
-        ensures { result ≡ is_within 1 process_limit (length (outline_view self.now).processes) }
+    fn processes_fit(&self, limit: usize) -> bool
+        ensures { result ≡ is_within 1 limit (length (outline_view self.now).processes) }
     {
-        1 <= self.processes.len() && self.processes.len() <= PROCESS_LIMIT
+        1 <= self.processes.len() && self.processes.len() <= limit
     }
 
     fn is_named(&self) -> bool
@@ -146,15 +146,15 @@ impl Outline<'_> {
         1 <= self.predicates.len() && self.predicates.len() <= PREDICATE_LIMIT
     }
 
-    /// Whether the outline has no fault.
+    /// Whether the outline has no fault, if it may have this many processes.
     ///
     /// # Errors
     /// The first fault of the outline, or out of memory.
-    pub(crate) fn check(&self, alloc: Global) -> Result<(), SpecFault>
-        ensures ok { OnOk result (outline_fault (outline_view self.now) ≡ None) }
-        ensures err { IfErr result (λ fault. IsFaultFound fault (outline_fault (outline_view self.now))) }
+    pub(crate) fn check(&self, alloc: Global, limit: usize) -> Result<(), SpecFault>
+        ensures ok { OnOk result (outline_fault limit (outline_view self.now) ≡ None) }
+        ensures err { IfErr result (λ fault. IsFaultFound fault (outline_fault limit (outline_view self.now))) }
     {
-        if !self.processes_fit() {
+        if !self.processes_fit(limit) {
             return Err(SpecFault::Processes);
         }
         if !self.is_named() {

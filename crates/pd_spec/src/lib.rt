@@ -6,6 +6,9 @@
 //! applies. Only out of memory is reported without a claim about the bytes. A `Spec` keeps the bounds of its parts as a
 //! ghost field, on which callers rely.
 //!
+//! A session's document has at most 16 processes. `Spec::read_within` takes another number, for runs of any length: a
+//! `Spec` says nothing of how many there are.
+//!
 //! `Options` say what is asked beside the document: another width, other predicates, and answers beyond the width.
 //! `Spec::read_with_options` puts them into the JSON value that was read, and `document_text` gives the text of the
 //! changed document, for a server that keeps its session as files.

@@ -12,7 +12,7 @@ use super::outline::Outline;
 use super::predicates::parse_all;
 use super::version::version_of;
 use super::{NamedPred, SpecFault};
-use def_format::{DEFAULT_WIDTH, DOCUMENT_BYTE_LIMIT, Version};
+use def_format::{DEFAULT_WIDTH, DOCUMENT_BYTE_LIMIT, PROCESS_LIMIT, Version};
 use pd_pred::Names;
 use read_traces::InitialValues;
 use serde_json::Value;
@@ -58,15 +58,15 @@ fn value_in(row: &[i64], v: usize) -> i64
 }
 
 impl Spec {
-    ghost use Rattle.std.specs.Prelude.{Err, IfOk, IfErr, None, [], slice_index_or};
-    ghost use Rattle.def_format.specs.Documents.{IsDocument, inquiry_of, outline_fault, plain};
+    ghost use Rattle.std.specs.Prelude.{Err, IfOk, IfErr, None, [], slice_index_or, ℕ};
+    ghost use Rattle.def_format.specs.Documents.{IsDocument, IsDocumentWithin, inquiry_of, outline_fault, plain};
     ghost use Rattle.def_format.specs.Names.{vars_of};
     ghost use Rattle.pd_spec.specs.DocumentParts.{IsDocumentOf};
     ghost use Rattle.pd_spec.specs.Named.{named_view};
     ghost use Rattle.pd_spec.specs.Outlines.{outline_view};
     ghost use Rattle.pd_spec.specs.Predicates.{IsLateFault};
     ghost use Rattle.def_format.specs.Versions.{version_view};
-    ghost use Rattle.pd_spec.specs.Views.{document_view, options_view, IsFaultOf};
+    ghost use Rattle.pd_spec.specs.Views.{document_view, options_view, IsFaultOf, IsFaultWithin};
 
     /// The document that these bytes are.
     ///
@@ -98,6 +98,26 @@ impl Spec {
         // Bytes that are too many are refused as such, and never as out of memory.
         ensures long { document_byte_limit < length bytes.now → result ≡ Err SpecFault.Long }
     {
+        Spec::read_within(alloc, PROCESS_LIMIT, bytes, options)
+    }
+
+    /// The same, if the document may have this many processes.
+    ///
+    /// # Errors
+    /// The first fault of the document, or out of memory.
+    pub fn read_within(
+        alloc: Global,
+        limit: usize,
+        bytes: &[u8],
+        options: &Options<'_>,
+    ) -> Result<Spec, SpecFault>
+        ensures ok { IfOk result (λ spec. IsDocumentWithin limit (inquiry_of (options_view options.now) bytes.now)
+            (document_view spec)) }
+        ensures err { IfErr result (λ fault.
+            IsFaultWithin limit (inquiry_of (options_view options.now) bytes.now) fault) }
+        // Bytes that are too many are refused as such, and never as out of memory.
+        ensures long { document_byte_limit < length bytes.now → result ≡ Err SpecFault.Long }
+    {
         if is_long(bytes) {
             return Err(SpecFault::Long);
         }
@@ -108,7 +128,7 @@ impl Spec {
         let Some(outline) = Outline::read(alloc, &changed)? else {
             return Err(SpecFault::Shape);
         };
-        outline.check(alloc)?;
+        outline.check(alloc, limit)?;
         Spec::of_outline(alloc, &outline, options.beyond_width)
     }
 
@@ -117,7 +137,7 @@ impl Spec {
         outline: &Outline<'_>,
         beyond_width: bool,
     ) -> Result<Spec, SpecFault>
-        requires { outline_fault (outline_view outline.now) ≡ None }
+        requires { (limit : ℕ) × (outline_fault limit (outline_view outline.now) ≡ None) }
         ensures ok { IfOk result (λ spec. IsDocumentOf (outline_view outline.now) beyond_width (document_view spec)) }
         ensures err { IfErr result (λ fault. IsLateFault (outline_view outline.now) fault) }
     {

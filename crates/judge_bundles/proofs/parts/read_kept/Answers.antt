@@ -2,6 +2,7 @@
 use Rattle.std.proofs.Common.{ℕ, List, arith, subst}
 use Rattle.std.proofs.lemmas.Result.{IfErr-weaker, IfOk-weaker}
 use Rattle.def_format.specs.Documents.{IsDocument, inquiry_of}
+use Rattle.def_format.specs.Limits.{process_limit}
 use Rattle.pd_spec.proofs.DocumentFacts.{long_bytes}
 use Rattle.pd_spec.specs.Views.{IsFaultOf, document_view, options_view}
 use Rattle.judge_bundles.proofs.parts.read_kept.Goals as goal
@@ -9,7 +10,7 @@ use Rattle.judge_bundles.proofs.parts.read_kept.Goals as goal
 pub returns-then-kept-gt-DOCUMENT_BYTE_LIMIT-clause-fault :
     goal.returns-then-kept-gt-DOCUMENT_BYTE_LIMIT-clause-fault
 returns-then-kept-gt-DOCUMENT_BYTE_LIMIT-clause-fault c = λ part kept.
-    long_bytes (inquiry_of (options_view c.args.options.now) part)
+    long_bytes process_limit (inquiry_of (options_view c.args.options.now) part)
     (kept.long (omega (arith, c.if-kept-gt-DOCUMENT_BYTE_LIMIT.true)))
 
 pub returns-clause-read : goal.returns-clause-read

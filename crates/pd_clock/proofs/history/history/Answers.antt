@@ -5,8 +5,8 @@ use Rattle.pd_clock.proofs.HistorySteps.{rows_more, vars_there}
 use Rattle.pd_clock.proofs.Rows.{length-row_after}
 use Rattle.pd_clock.proofs.history.history.Goals as goal
 
-pub apply-requires : goal.apply-requires
-apply-requires c =
+pub apply_settings-requires : goal.apply_settings-requires
+apply_settings-requires c =
     subst (λ (n : ℕ). AreVars n c.settings.result) (sym c.loop-k.invariant.width)
     (vars_there (length c.args.start.now) c.args.events.now c.loop-k.k c.settings.result c.requires c.settings.ensures)
 
@@ -15,7 +15,7 @@ loop-k-preserved c =
     let row = c.loop-k.row.items in
     let next = row_after row c.settings.result in
     let later = drop (c.loop-k.k + 1) c.args.events.now in
-    let made : c.apply.new.row.items ≡ next = c.apply.ensures in
+    let made : c.apply_settings.new.row.items ≡ next = c.apply_settings.ensures in
     let added : c.extend-in-loop-k.new.self ≡ c.loop-k.values ++ next =
     c.in_ok-extend-2.ensures.ok
     ∙ ap (λ (xs : List ℤ). c.loop-k.values ++ xs) (c.deref.ensures.value ∙ made) in

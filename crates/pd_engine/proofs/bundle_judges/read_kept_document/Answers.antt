@@ -2,6 +2,7 @@
 use Rattle.std.proofs.Common.{ℕ, List, subst, arith}
 use Rattle.read_bundle.specs.PartsRead.{IsKept}
 use Rattle.def_format.specs.Documents.{plain}
+use Rattle.def_format.specs.Limits.{process_limit}
 use Rattle.def_format.specs.Reports.{Report}
 use Rattle.def_judgement.specs.Judgements.{IsJudgement, RawStream}
 use Rattle.pd_report.specs.Views.{refusal_view}
@@ -15,7 +16,7 @@ pub returns-then-kept-gt-DOCUMENT_BYTE_LIMIT-clause-refused :
     goal.returns-then-kept-gt-DOCUMENT_BYTE_LIMIT-clause-refused
 returns-then-kept-gt-DOCUMENT_BYTE_LIMIT-clause-refused c = λ part kept streams.
     refused_judged (plain part) streams faults.Long (refusal_view c.in_ok-of_document.field-0)
-    (long_bytes (plain part) (kept.long (omega
+    (long_bytes process_limit (plain part) (kept.long (omega
     (arith, c.if-kept-gt-DOCUMENT_BYTE_LIMIT.true)))) c.in_ok-of_document.ensures
 
 pub returns-clause-refused : goal.returns-clause-refused

@@ -1,7 +1,8 @@
 -- The traces fit the session, and if no cycle is reported all events have their clocks.
-use Rattle.std.proofs.Common.{◌≡◌, ℤ, List, Option, Some, None, refl, sym, subst}
+use Rattle.std.proofs.Common.{◌≡◌, ◌≤◌, ℤ, List, Option, Some, None, length, refl, sym, subst, rules}
 use Rattle.std.specs.Prelude.{IfNone, Vec}
 use Rattle.std.specs.Global.{Global}
+use Rattle.def_format.specs.Limits.{process_limit}
 use Rattle.def_format.specs.Names.{ProcessNames}
 use Rattle.def_model.specs.Order.{HasNoCycle}
 use Rattle.def_model.specs.Predicates.{Initial}
@@ -21,27 +22,24 @@ none_reported (Some x) P no_place holds = absurd (no_place x refl)
 
 -- the traces fit the session's values, which are these
 fits : (names : List ProcessNames) (initial : Initial) (rows : List (Vec ℤ Global)) (traces : List Trace)
-    → initial_view rows ≡ initial → AreInitialRows names initial → AreTraces names traces → FitsInitial rows traces
-fits names initial rows traces same fit are =
-    fits_initial names rows traces (subst (λ (values : Initial). AreInitialRows names values) (sym same) fit) are
-
-pub put_in_order-requires-clause-few : goal.put_in_order-requires-clause-few
-put_in_order-requires-clause-few g c =
-    (fits (g.S.InitialValues.names c.args.session.now) (g.S.InitialValues.initial c.args.session.now)
-    c.initial_rows-initial.result.now c.args.traces.now c.initial_rows-initial.ensures.rows
-    c.initial_rows-initial.ensures.fit c.requires.traces).few
+    → initial_view rows ≡ initial → AreInitialRows names initial → AreTraces names traces
+    → length traces ≤ process_limit → FitsInitial rows traces
+fits names initial rows traces same fit are few =
+    fits_initial names rows traces (subst (λ (values : Initial). AreInitialRows names values) (sym same) fit) are few
 
 pub put_in_order-requires-clause-short : goal.put_in_order-requires-clause-short
 put_in_order-requires-clause-short g c =
     (fits (g.S.InitialValues.names c.args.session.now) (g.S.InitialValues.initial c.args.session.now)
     c.initial_rows-initial.result.now c.args.traces.now c.initial_rows-initial.ensures.rows
-    c.initial_rows-initial.ensures.fit c.requires.traces).short
+    c.initial_rows-initial.ensures.fit c.requires.traces
+    (let few : length c.args.traces.now ≤ process_limit = search rules in few)).short
 
 pub histories-requires : goal.histories-requires
 histories-requires g c =
     fits (g.S.InitialValues.names c.args.session.now) (g.S.InitialValues.initial c.args.session.now)
     c.initial_rows-initial.result.now c.args.traces.now c.initial_rows-initial.ensures.rows
     c.initial_rows-initial.ensures.fit c.requires.traces
+    (let few : length c.args.traces.now ≤ process_limit = search rules in few)
 
 pub invariant_of-result : goal.invariant_of-result
 invariant_of-result g c =

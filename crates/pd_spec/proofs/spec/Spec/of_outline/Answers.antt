@@ -22,7 +22,7 @@ invariant_of-result c =
     record {
       sound =
           rw (c.in_ok-names.ensures, c.in_ok-initial.ensures, names, c.width_of.ensures)
-          (sound_of (outline_view c.args.outline.now) c.requires);
+          (sound_of c.requires.0 (outline_view c.args.outline.now) c.requires.1);
     }
 
 pub returns-in_default-clause-err : goal.returns-in_default-clause-err
