@@ -10,7 +10,7 @@ use Rattle.def_model.specs.Predicates.{Recorded}
 use Rattle.def_model.proofs.ClockLemmas.{one_clock}
 use Rattle.def_orders.specs.Laws.{OrderIsSingle}
 use Rattle.def_orders.specs.Orders.{AreKept, IsKnownTo, IsSeenOf, ProcessOrder, count_up_to}
-use Rattle.def_orders.proofs.OrdersAlike.{nothing_seen}
+use Rattle.def_orders.proofs.OneOrder.{nothing_seen}
 use Rattle.def_orders.proofs.Ranks.{Ascend, contained_of_last, last_of_contained, last_up_to, rest_ascend}
 
 -- ---- ascending lists that have the same numbers

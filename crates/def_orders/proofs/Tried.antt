@@ -1,46 +1,15 @@
--- The example of the definitions.
-use Rattle.std.proofs.Common.{◌≡◌, ◌≢◌, ℕ, zero, suc, ◌+◌, ◌<◌, ◌≤◌, List, [], ◌∷◌, length, get_or, pos, flat_map, Some, Contains, refl, sym, ap, ◌∙◌, subst, inl, inr, arith, lit≤}
-use Rattle.def_model.specs.Events.{Send, Receive, Computation, Place, place, IsBefore, IsEvent, kind_at, event_count}
-use Rattle.def_model.specs.Order.{LeadsTo, HappenedBefore, HasNoCycle, IsClock, IsUpTo}
+-- The example of two runs of one order.
+use Rattle.std.proofs.Common.{◌≡◌, ◌≢◌, ℕ, zero, suc, ◌+◌, ◌<◌, List, [], ◌∷◌, length, get_or, pos, flat_map, Some, Contains, refl, sym, subst, inl, inr, arith, lit≤}
+use Rattle.def_model.specs.Events.{Send, Receive, Computation, place, IsEvent, kind_at, event_count}
+use Rattle.def_model.specs.Order.{HappenedBefore, IsClock}
 use Rattle.def_model.specs.Examples.{one_message}
-use Rattle.def_model.proofs.Chains.{events_of_happens, happens_from_earlier, happens_least, step_happens}
+use Rattle.def_model.specs.Predicates.{Recorded}
+use Rattle.def_model.proofs.Chains.{events_of_happens, step_happens}
 use Rattle.def_model.proofs.ClockSteps.{own_clock}
 use Rattle.def_long.proofs.Tried.{one_receives, one_sends}
+use Rattle.def_orders.proofs.Onward.{HappensOnward, all_known, messages_onward, no_cycle_onward, none_known}
 use Rattle.def_orders.specs.Examples.{OthersAreNotSeen, from_zeros, one_after_one, with_others}
 use Rattle.def_orders.specs.Orders.{AreKept, IsKnownTo, IsOrderOf, IsSeenOf, ProcessOrder, count_up_to, values_after}
-
--- ---- messages go to the second process
-
-before_onward : (d e f : Place) → IsBefore d e → IsBefore e f → IsBefore d f
-before_onward d e f (inl a) (inl b) = inl (omega arith)
-before_onward d e f (inl a) (inr b) = let same : e.process ≡ f.process = b.0 in inl (omega arith)
-before_onward d e f (inr a) (inl b) = let same : d.process ≡ e.process = a.0 in inl (omega arith)
-before_onward d e f (inr a) (inr b) =
-    let low : d.number < e.number = a.1 in let high : e.number < f.number = b.1 in inr (a.0 ∙ b.0, omega arith)
-
--- sends are of the first process, and receipts of the second
-record GoOnward (c : Computation) : Type 0 where
-  sends : (p n : ℕ) (id : List ℕ) → kind_at c (place p n) ≡ Some (Send id) → p ≡ 0
-  receives : (p n : ℕ) (id : List ℕ) → kind_at c (place p n) ≡ Some (Receive id) → p ≡ 1
-
-happens_onward : (c : Computation) → GoOnward c → (e f : Place) → HappenedBefore c e f → IsBefore e f
-happens_onward c onward = happens_least c IsBefore step before_onward
-  where
-    step : (e f : Place) → LeadsTo c e f → IsBefore e f
-    step e f (inl later) = inr (later.2, later.3)
-    step e f (inr (id, sends, receives, apart)) =
-        inl (omega (
-          arith,
-          onward.sends e.process e.number id sends,
-          onward.receives f.process f.number id receives,
-        ))
-
-no_cycle_onward : (c : Computation) → GoOnward c → HasNoCycle c
-no_cycle_onward c onward e h = go (happens_onward c onward e e h)
-  where
-    go : IsBefore e e → ⊥
-    go (inl lt) = omega arith
-    go (inr (same, lt)) = omega arith
 
 -- the order in which the first process's event happened before the second one's
 abbrev IsOneAfterOne : Computation → Type 0
@@ -48,7 +17,7 @@ IsOneAfterOne c = IsOrderOf (from_zeros c) ((0 ∷ []) ∷ (0 ∷ []) ∷ []) on
 
 -- ---- a last event of the first process that happened before the one kept event of the second
 
-module _ (c : Computation) (onward : GoOnward c) (a b : ℕ) (last : event_count c 0 ≡ a)
+module _ (c : Computation) (onward : HappensOnward c) (a b : ℕ) (last : event_count c 0 ≡ a)
     (sent : HappenedBefore c (place 0 a) (place 1 b)) (first_one : count_up_to (a ∷ []) a ≡ 1)
     (second_one : count_up_to (b ∷ []) b ≡ 1) (none : count_up_to (b ∷ []) 0 ≡ 0) where
   abbrev Numbers : List (List ℕ)
@@ -57,39 +26,13 @@ module _ (c : Computation) (onward : GoOnward c) (a b : ℕ) (last : event_count
   events : IsEvent c (place 0 a) × IsEvent c (place 1 b)
   events = events_of_happens c (place 0 a) (place 1 b) sent
 
-  none_known : IsClock c (place 0 a) 1 0
-  none_known = record {
-    within = omega arith;
-    past = λ m low high. (λ le. absurd (omega arith), λ up. absurd (out m up));
-  }
-    where
-      before : (m : ℕ) → IsBefore (place 1 m) (place 0 a) → ⊥
-      before m (inl lt) = omega arith
-      before m (inr (same, lt)) = omega arith
-
-      apart : (n : ℕ) → n ≡ 0 → 1 ≤ n → ⊥
-      apart n none some = omega arith
-
-      out : (m : ℕ) → IsUpTo c (place 1 m) (place 0 a) → ⊥
-      out m (inl same) = apart 1 (ap (λ (x : Place). x.process) same) (lit≤ tt)
-      out m (inr h) = before m (happens_onward c onward (place 1 m) (place 0 a) h)
-
-  all_known : IsClock c (place 1 b) 0 a
-  all_known = record {
-    within = events.0.1;
-    past = λ m low high. (
-      λ le. inr (happens_from_earlier c (place 0 a) (place 1 b) m sent le (low, high)),
-      λ up. omega arith,
-    );
-  }
-
   known_to_first : IsKnownTo (from_zeros c) Numbers (place 0 a) (1 ∷ 0 ∷ [])
   known_to_first = record { one_each = refl; each = each }
     where
       each : (q : ℕ) → q < 2 → (n : ℕ) × IsClock c (place 0 a) q n
           × (get_or (1 ∷ 0 ∷ []) q 0 ≡ count_up_to (get_or Numbers q []) n)
       each zero lt = (a, own_clock c (place 0 a) events.0 (no_cycle_onward c onward (place 0 a)), sym first_one)
-      each (suc zero) lt = (0, none_known, sym none)
+      each (suc zero) lt = (0, none_known c onward 0 a 1 (lit≤ tt), sym none)
       each (suc (suc q)) lt = absurd (omega arith)
 
   known_to_second : IsKnownTo (from_zeros c) Numbers (place 1 b) (1 ∷ 1 ∷ [])
@@ -97,7 +40,7 @@ module _ (c : Computation) (onward : GoOnward c) (a b : ℕ) (last : event_count
     where
       each : (q : ℕ) → q < 2 → (n : ℕ) × IsClock c (place 1 b) q n
           × (get_or (1 ∷ 1 ∷ []) q 0 ≡ count_up_to (get_or Numbers q []) n)
-      each zero lt = (a, all_known, sym first_one)
+      each zero lt = (a, all_known c 1 b 0 a last sent, sym first_one)
       each (suc zero) lt = (b, own_clock c (place 1 b) events.1 (no_cycle_onward c onward (place 1 b)), sym second_one)
       each (suc (suc q)) lt = absurd (omega arith)
 
@@ -127,56 +70,56 @@ module _ (c : Computation) (onward : GoOnward c) (a b : ℕ) (last : event_count
       each (suc (suc p)) of lt = absurd (omega arith)
 
 -- Each event but the one with this number leaves the process's variable as it was.
-abbrev StaysAtOthers : Computation → ℕ → ℕ → Type 0
-StaysAtOthers c p n =
-    (m : ℕ) → m < event_count c p → (Contains (n ∷ []) (m + 1) → ⊥)
-    → values_after (from_zeros c) p (0 ∷ []) m ≡ values_after (from_zeros c) p (0 ∷ []) (m + 1)
+abbrev pub StaysAtOthers : Recorded → ℕ → ℕ → Type 0
+StaysAtOthers r p n =
+    (m : ℕ) → m < event_count r.events p → (Contains (n ∷ []) (m + 1) → ⊥)
+    → values_after r p (0 ∷ []) m ≡ values_after r p (0 ∷ []) (m + 1)
 
 -- The event after the first k of process p is its one kept event.
-one_kept : (c : Computation) (p k : ℕ) → IsEvent c (place p (k + 1)) → StaysAtOthers c p (k + 1)
-    → values_after (from_zeros c) p (0 ∷ []) k ≢ values_after (from_zeros c) p (0 ∷ []) (k + 1)
-    → AreKept (from_zeros c) p (0 ∷ []) ((k + 1) ∷ [])
-one_kept c p k is others differ =
+pub one_kept : (r : Recorded) (p k : ℕ) → IsEvent r.events (place p (k + 1)) → StaysAtOthers r p (k + 1)
+    → values_after r p (0 ∷ []) k ≢ values_after r p (0 ∷ []) (k + 1)
+    → AreKept r p (0 ∷ []) ((k + 1) ∷ [])
+one_kept r p k is others differ =
     record { ascend = ascend; events = events; changes = changes; others = others }
   where
     ascend : (i j d : ℕ) → i < j → j < 1 → get_or ((k + 1) ∷ []) i d < get_or ((k + 1) ∷ []) j d
     ascend i j d lt within = absurd (omega arith)
 
-    events : (i d : ℕ) → i < 1 → IsEvent c (place p (get_or ((k + 1) ∷ []) i d))
+    events : (i d : ℕ) → i < 1 → IsEvent r.events (place p (get_or ((k + 1) ∷ []) i d))
     events zero d lt = is
     events (suc i) d lt = absurd (omega arith)
 
     changes : (n : ℕ) → Contains ((k + 1) ∷ []) (n + 1)
-        → values_after (from_zeros c) p (0 ∷ []) n ≢ values_after (from_zeros c) p (0 ∷ []) (n + 1)
+        → values_after r p (0 ∷ []) n ≢ values_after r p (0 ∷ []) (n + 1)
     changes n (zero, lt, at) =
         let same : k ≡ n = omega (arith, at) in
         subst (λ (m : ℕ).
-        values_after (from_zeros c) p (0 ∷ []) m ≢ values_after (from_zeros c) p (0 ∷ []) (m + 1)) same differ
+        values_after r p (0 ∷ []) m ≢ values_after r p (0 ∷ []) (m + 1)) same differ
     changes n (suc i, lt, at) = absurd (omega (arith, lt))
 
 -- one variable that goes from 0 to 1
-from_0_to_1 : pos 0 ∷ [] ≢ pos 1 ∷ []
+pub from_0_to_1 : pos 0 ∷ [] ≢ pos 1 ∷ []
 from_0_to_1 same = cc
 
 -- ---- the run of the two events
 
-one_onward : GoOnward one_message
-one_onward = record { sends = one_sends; receives = one_receives }
+pub one_onward : HappensOnward one_message
+one_onward = messages_onward one_message one_sends one_receives
 
 one_sent : HappenedBefore one_message (place 0 1) (place 1 1)
 one_sent = step_happens one_message (place 0 1) (place 1 1) (inr (109 ∷ [], refl, refl, (λ e. omega arith)))
 
-one_order : IsOneAfterOne one_message
+pub one_order : IsOneAfterOne one_message
 one_order =
     order_of_two one_message one_onward 1 1 refl one_sent refl refl refl refl
-    (one_kept one_message 0 0 (lit≤ tt, lit≤ tt) first from_0_to_1)
-    (one_kept one_message 1 0 (lit≤ tt, lit≤ tt) second from_0_to_1) refl refl
+    (one_kept (from_zeros one_message) 0 0 (lit≤ tt, lit≤ tt) first from_0_to_1)
+    (one_kept (from_zeros one_message) 1 0 (lit≤ tt, lit≤ tt) second from_0_to_1) refl refl
   where
-    first : StaysAtOthers one_message 0 1
+    first : StaysAtOthers (from_zeros one_message) 0 1
     first zero lt out = absurd (out (0, lit≤ tt, refl))
     first (suc m) lt out = absurd (omega arith)
 
-    second : StaysAtOthers one_message 1 1
+    second : StaysAtOthers (from_zeros one_message) 1 1
     second zero lt out = absurd (out (0, lit≤ tt, refl))
     second (suc m) lt out = absurd (omega arith)
 
@@ -200,8 +143,8 @@ others_receive (suc zero) n id e = refl
 others_receive (suc (suc p)) zero id e = cc
 others_receive (suc (suc p)) (suc n) id e = cc
 
-others_onward : GoOnward with_others
-others_onward = record { sends = others_send; receives = others_receive }
+others_onward : HappensOnward with_others
+others_onward = messages_onward with_others others_send others_receive
 
 others_sent : HappenedBefore with_others (place 0 2) (place 1 2)
 others_sent = (
@@ -212,15 +155,15 @@ others_sent = (
 others_order : IsOneAfterOne with_others
 others_order =
     order_of_two with_others others_onward 2 2 refl others_sent refl refl refl refl
-    (one_kept with_others 0 1 (lit≤ tt, lit≤ tt) first from_0_to_1)
-    (one_kept with_others 1 1 (lit≤ tt, lit≤ tt) second from_0_to_1) refl refl
+    (one_kept (from_zeros with_others) 0 1 (lit≤ tt, lit≤ tt) first from_0_to_1)
+    (one_kept (from_zeros with_others) 1 1 (lit≤ tt, lit≤ tt) second from_0_to_1) refl refl
   where
-    first : StaysAtOthers with_others 0 2
+    first : StaysAtOthers (from_zeros with_others) 0 2
     first zero lt out = refl
     first (suc zero) lt out = absurd (out (0, lit≤ tt, refl))
     first (suc (suc m)) lt out = absurd (omega arith)
 
-    second : StaysAtOthers with_others 1 2
+    second : StaysAtOthers (from_zeros with_others) 1 2
     second zero lt out = refl
     second (suc zero) lt out = absurd (out (0, lit≤ tt, refl))
     second (suc (suc m)) lt out = absurd (omega arith)

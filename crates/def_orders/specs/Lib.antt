@@ -1,4 +1,5 @@
 -- Orders of runs.
 pub mod Orders
+pub mod Selections
 pub mod Laws
 pub mod Examples

@@ -2,8 +2,8 @@
 //! the same answers. The definitions stand in `specs/`; each function here has no code, and its contract is laws.
 #![tactic(auto)]
 
-ghost use Rattle.def_orders.specs.Examples.{OthersAreNotSeen};
-ghost use Rattle.def_orders.specs.Laws.{DefinitelyOfOrder, OrderIsSingle, PossiblyOfOrder};
+ghost use Rattle.def_orders.specs.Examples.{MiddleIsNotSeen, OthersAreNotSeen};
+ghost use Rattle.def_orders.specs.Laws.{DefinitelyOfOrder, DefinitelyOfPart, OrderIsSingle, PossiblyOfOrder, PossiblyOfPart};
 
 /// A run has one order: of one run, nothing else can be seen of the same variables.
 pub fn order_is_single()
@@ -16,7 +16,15 @@ pub fn one_order()
     ensures definitely { DefinitelyOfOrder }
 {}
 
-/// Two small runs with other events have one order.
+/// A run has the answers of another one of which it has the processes that are seen, for each predicate of which all
+/// variables are seen.
+pub fn one_part()
+    ensures possibly { PossiblyOfPart }
+    ensures definitely { DefinitelyOfPart }
+{}
+
+/// Two small runs with other events have one order, and one of these has the processes of a third run that are seen.
 pub fn examples()
-    ensures { OthersAreNotSeen }
+    ensures others { OthersAreNotSeen }
+    ensures middle { MiddleIsNotSeen }
 {}
