@@ -11,3 +11,5 @@ pub mod KeptFew
 pub mod KeptOrders
 pub mod RankRows
 pub mod KeptRanks
+pub mod SomeLists
+pub mod PartRows

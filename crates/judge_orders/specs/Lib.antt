@@ -8,3 +8,4 @@ pub mod ProcessEvents
 pub mod KnownRows
 pub mod KeptRuns
 pub mod RankTables
+pub mod PartCounts

@@ -9,6 +9,7 @@
 //! - `hashing`: a hash of what is seen of processes
 //! - `memory`: how much memory an order takes
 //! - `order`: the order of a run
+//! - `parts`: the order of some processes of a run
 //!
 //! Of a run of any length, by its traces:
 //!
@@ -25,6 +26,7 @@ mod long_order;
 mod memory;
 mod named;
 mod order;
+mod parts;
 mod process_kept;
 mod rank_table;
 mod ranks;
@@ -35,4 +37,5 @@ pub use kept::{all_kept_events, value_after};
 pub use long_order::{KeptRun, order_of_traces};
 pub use named::named_vars;
 pub use order::{Order, ProcessOrder, order_of};
+pub use parts::{part_of, seen_places};
 pub use ranks::{columns, rank};

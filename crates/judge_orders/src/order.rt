@@ -1,4 +1,5 @@
 //! The order of a run.
+ghost use Rattle.judge_orders.specs.Lists.{lists_view};
 ghost use Rattle.judge_orders.specs.OrderViews.{HasOrder, named_view, processes_view};
 ghost use Rattle.pd_spec.specs.Views.{document_view};
 ghost use Rattle.std.specs.Prelude.{◌≡◌, ◌↔◌, IfOk, IsTrue, length};
@@ -49,7 +50,9 @@ impl ProcessOrder {
 
 impl Order {
     /// The variables of each process that are seen, counted from 0.
-    pub fn named(&self) -> &[Vec<usize>] {
+    pub fn named(&self) -> &[Vec<usize>]
+        ensures { lists_view result.now ≡ named_view self.now }
+    {
         self.named.as_slice()
     }
 

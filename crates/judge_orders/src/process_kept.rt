@@ -2,8 +2,9 @@
 ghost use Rattle.def_model.specs.Events.{Event};
 ghost use Rattle.judge_orders.specs.ProcessEvents.{AreKeptOfProcess, seen_in};
 ghost use Rattle.pd_clock.specs.Histories.{AreVars, row_after};
-ghost use Rattle.std.specs.Prelude.{◌≡◌, ◌≢◌, ◌<◌, ◌++◌, All, IfOk, drop, false, length, pos, slice_index_or, slice_set, true};
+ghost use Rattle.std.specs.Prelude.{◌≡◌, ◌≢◌, ◌++◌, All, IfOk, drop, false, length, pos, slice_index_or, true};
 
+use pd_clock::apply_settings;
 use read_traces::{Events, Settings};
 use std::alloc::{AllocError, Global};
 
@@ -23,26 +24,6 @@ fn differ(first: i64, second: i64) -> bool
     ensures differ { result ≡ true → first ≢ second }
 {
     first != second
-}
-
-/// Makes a setting.
-#[inline(always)]
-fn put(row: &mut Vec<i64>, setting: (usize, i64))
-    requires { setting.0 < length row.old.items }
-    ensures { row.new.items ≡ slice_set row.old.items setting.0 setting.1 }
-{
-    let (var, value) = setting;
-    row[var] = value;
-}
-
-/// Makes the settings, one after another.
-fn apply(row: &mut Vec<i64>, settings: &Settings<'_>)
-    requires { AreVars (length row.old.items) settings.now }
-    ensures { row.new.items ≡ row_after row.old.items settings.now }
-{
-    for i in 0..settings.len() {
-        put(row, settings.get(i));
-    }
 }
 
 /// What a variable is worth by the row of its process; 0 if it isn't there.
@@ -85,7 +66,7 @@ fn changes_seen(
     if settings.len() == 0 {
         return false;
     }
-    apply(row, settings);
+    apply_settings(row, settings);
     !is_seen_so(row, vars, values, last)
 }
 
