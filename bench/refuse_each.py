@@ -165,12 +165,14 @@ def serve(arguments, streams, folder, number, kind):
 
 
 def reduce(arguments, bundle, folder, number, kind):
-    """What a reduction gives and which files its session has then, and how many calls of the kind it made."""
+    """What a reduction gives and which files each folder has then that was made, and how many calls of the kind it
+    made."""
     made = arguments[arguments.index("--to") + 1]
-    for name in (made, made + ".new"):
+    folders = (made, made + ".new")
+    for name in folders:
         shutil.rmtree(name, ignore_errors=True)
     ended, calls = run(arguments, bundle, folder, number, kind)
-    return (*ended, kept_files(made)), calls
+    return (*ended, {name: kept_files(name) for name in folders if os.path.isdir(name)}), calls
 
 
 def kept_in(arguments):
@@ -309,7 +311,7 @@ def is_right(arguments, kind, ended, want):
 
 
 def is_reduced(kind, ended, want):
-    """Whether a reduction ended as it may: with a whole session or none, whatever it says of that."""
+    """Whether a reduction ended as it may: with a whole session, or with nothing made, whatever it says of that."""
     (*given, files), (*due, whole) = ended, want
     if given == due:
         return files == whole

@@ -228,14 +228,15 @@ pub(crate) const REDUCE_ABOUT: &str =
 
 /// What the help of `reduce` ends with.
 pub(crate) const REDUCE_AFTER: &str =
-    "The streams may have any number of bytes, and a process up to 2147483647 events. Kept are the events that set a \
-variable which a predicate names to another value, with their order. So for each predicate the session has the answers \
-of the run, to Possibly and to Definitely. In FOLDER stand its document, session.json, of version 2, and a stream of \
-each process, NAME.stream, for `judge`, `explore` and all other commands. The message a-12 is sent by the 12th kept \
-event of the process a. A line on the run and one on the session are written to the standard output.\n\n\
+    "A run has at most 4096 processes. Its streams may have any number of bytes, and a process up to 2147483647 \
+events. Kept are the events that set a variable which a predicate names to another value, with their order, and the \
+processes that predicates name. So for each predicate the session has the answers of the run, to Possibly and to \
+Definitely. In FOLDER stand its document, session.json, of version 2, and a stream of each of its processes, \
+NAME.stream, for `judge`, `explore` and all other commands. The message a-12 is sent by the 12th kept event of the \
+process a. A line on the run and one on the session are written to the standard output.\n\n\
 The status is 0 if the session is made, 1 if the run is refused, with its report, or if its session would have more \
-than a session may have, as more than 10000 events of a process, 2 if the arguments are refused, 3 if a file can't be \
-opened or read, or the folder or the output can't be written, and 4 if memory runs out.\n\n\
+than a session may have, as more than 16 processes, or 10000 events of one, 2 if the arguments are refused, 3 if a \
+file can't be opened or read, or the folder or the output can't be written, and 4 if memory runs out.\n\n\
 With --max-time SECONDS the status is 6 if the run takes longer, and nothing is written to the standard output.\n\n\
 The formats are described in docs/SPECIFICATION.md. An example, at the top of the repository:\n  \
 crates/monitor/out/monitor reduce examples/ten-lines/session.json examples/ten-lines/*.stream --to reduced";

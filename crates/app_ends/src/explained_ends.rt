@@ -152,6 +152,7 @@ fn put_files_report<Y: System>(
         streams: &streams,
         order: "",
         notes: notes.as_ref(),
+        run_limit: None,
     };
     put_report(out, world.rt, world.alloc, seen, widest, report);
     put_reasons(out, world.alloc, &judgement.fail_on, report);
@@ -166,6 +167,7 @@ fn seen_alone<'a, Y: System>(world: &World<'a, Y>, names: &'a SessionNames<'a>) 
         streams: &[],
         order: "",
         notes: None,
+        run_limit: None,
     }
 }
 
@@ -281,12 +283,14 @@ pub fn exploration_text<Y: System>(
     rows_of(world.alloc, out)
 }
 
-/// Explains why the session in files is refused, with what was noted of its events.
+/// Explains why the session in files is refused, with what was noted of its events; or the run of any length, whose
+/// document may have this many processes.
 fn put_noted_refusal<Y: System>(
     out: &mut Text,
     world: &World<'_, Y>,
     names: &SessionNames<'_>,
     notes: Option<&EventNotes>,
+    run_limit: Option<usize>,
     refusal: &Refusal,
 ) {
     let Some(streams) = out.take_made(seen_streams(world.alloc, world.notes, &names.streams)) else {
@@ -298,6 +302,7 @@ fn put_noted_refusal<Y: System>(
         streams: &streams,
         order: "",
         notes,
+        run_limit,
     };
     explain_refusal(out, world.alloc, seen, refusal);
 }
@@ -311,8 +316,21 @@ fn put_refusal<Y: System>(
 ) {
     let mut unread = Text::new(world.alloc);
     let notes = notes_of(&mut unread, world, names);
-    put_noted_refusal(out, world, names, notes.as_ref(), refusal);
+    put_noted_refusal(out, world, names, notes.as_ref(), None, refusal);
     out.say_text(&unread);
+}
+
+/// The explanation of the refusal of the run of any length in files, as far as it could be made. The document may have
+/// this many processes.
+pub fn run_refusal_text<Y: System>(
+    world: &World<'_, Y>,
+    names: &SessionNames<'_>,
+    run_limit: usize,
+    refusal: &Refusal,
+) -> Vec<u8> {
+    let mut out = Text::new(world.alloc);
+    put_noted_refusal(&mut out, world, names, None, Some(run_limit), refusal);
+    rows_of(world.alloc, out)
 }
 
 /// The explanation of the refusal of the session in files, as far as it could be made, whether one is wanted or not.
@@ -341,6 +359,7 @@ fn put_parts_report<Y: System>(
         streams,
         order: "Streams count in the order in which they stand in the bundle.\n",
         notes: None,
+        run_limit: None,
     };
     put_report(out, world.rt, world.alloc, seen, widest, report);
 }
@@ -549,7 +568,7 @@ fn put_refused_drawing<Y: System>(
     if put_report_as_stream(out, world, &names.streams) {
         return;
     }
-    put_noted_refusal(out, world, names, notes, refusal);
+    put_noted_refusal(out, world, names, notes, None, refusal);
 }
 
 /// Explains how a run that draws ended. The report that is due is there if it was drawn.

@@ -23,7 +23,7 @@ mod unknown_names;
 
 pub use explained_ends::{
     bundle_text, check_text, drawing_text, exploration_text, judgement_text, put_fault, put_report,
-    refusal_text,
+    refusal_text, run_refusal_text,
 };
 pub use reasons::put_reasons;
 pub use seen_files::seen_document;

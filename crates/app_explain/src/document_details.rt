@@ -276,7 +276,7 @@ pub(crate) fn say_detail(
 ) {
     match word {
         DocumentWord::Shape => say_shape(out, alloc, source, value),
-        DocumentWord::Processes => say_count(
+        DocumentWord::Processes | DocumentWord::RunProcesses => say_count(
             out,
             items_of(value, "processes").len(),
             " processes.\n",

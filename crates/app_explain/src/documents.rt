@@ -16,6 +16,7 @@ fn meaning(word: DocumentWord) -> &'static str {
         DocumentWord::Json => "The session document isn't a JSON text.",
         DocumentWord::Shape => "The session document doesn't have the form of one.",
         DocumentWord::Processes => "The session document has no process, or more than 16.",
+        DocumentWord::RunProcesses => "The run's document has no process, or more than 4,096.",
         DocumentWord::Name => "A name in the session document isn't one that is allowed.",
         DocumentWord::NameTwice =>
             "Two processes, or two predicates, of the session document have the same name.",
@@ -41,6 +42,7 @@ deep in each other.",
 \"predicates\":[{\"name\":\"p\",\"text\":\"a.x == 1\"}]}"
         }
         DocumentWord::Processes => "1 to 16 processes.",
+        DocumentWord::RunProcesses => "1 to 4,096 processes.",
         DocumentWord::Name => {
             "an ASCII letter or _, then such letters, digits and _, at most 32 bytes in all, and none of and, or, not, \
 true, false."
@@ -67,8 +69,12 @@ fn advice(word: DocumentWord) -> &'static str {
 before it."
         }
         DocumentWord::Shape => "give each part the form of this example.",
-        DocumentWord::Processes =>
-            "name in \"processes\" each process that you record, at most 16.",
+        DocumentWord::Processes => {
+            "name in \"processes\" each process that you record. Of a run of more than 16 make a session that has the \
+same answers: monitor reduce, with the same document and streams, and --to FOLDER."
+        }
+        DocumentWord::RunProcesses =>
+            "name in \"processes\" each process that you record, and none that you don't.",
         DocumentWord::Name => "choose another name, here and where predicates and streams use it.",
         DocumentWord::NameTwice => "rename one of the two.",
         DocumentWord::Vars =>

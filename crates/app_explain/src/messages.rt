@@ -223,11 +223,20 @@ pub fn advise_absent(out: &mut Text) {
     );
 }
 
-/// Explains that there are too many streams.
-pub fn explain_streams(out: &mut Text) {
+/// Explains that there are too many streams, of a session or of a run of any length.
+pub(crate) fn explain_streams(out: &mut Text, is_run: bool) {
+    if is_run {
+        out.say("There are more than 8,192 streams.\n");
+        out.say_advice(
+            "one stream for each process, of which a run has at most 4,096.",
+            "name the files of one run alone.",
+        );
+        return;
+    }
     out.say("There are more than 32 streams.\n");
     out.say_advice(
         "one stream for each process, of which a session has at most 16.",
-        "name the files of one run alone.",
+        "name the files of one run alone. Of a run of more processes make a session that has the same answers: monitor \
+reduce, with the same document and streams, and --to FOLDER.",
     );
 }

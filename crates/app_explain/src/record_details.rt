@@ -120,6 +120,7 @@ fn name_at_fault<'a>(
         | StreamWord::Json
         | StreamWord::Join
         | StreamWord::Events
+        | StreamWord::RunEvents
         | StreamWord::Unended
         | StreamWord::Read
         | StreamWord::Taken => None,

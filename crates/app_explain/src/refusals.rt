@@ -356,7 +356,7 @@ fn put_message(
 /// Explains why a session is refused, by what was read of it. Nothing is said of a word that no report has.
 pub fn explain_refusal(out: &mut Text, alloc: Global, seen: Seen<'_>, refusal: &Refusal) {
     match refusal {
-        Refusal::Spec(word) => match DocumentWord::of(word) {
+        Refusal::Spec(word) => match seen.document_word(word) {
             Some(word) => put_document(out, alloc, seen, word),
             None => (),
         },
@@ -367,8 +367,8 @@ pub fn explain_refusal(out: &mut Text, alloc: Global, seen: Seen<'_>, refusal: &
             }
             None => (),
         },
-        Refusal::Streams => explain_streams(out),
-        Refusal::Stream { stream, line, word } => match StreamWord::of(word) {
+        Refusal::Streams => explain_streams(out, seen.run_limit.is_some()),
+        Refusal::Stream { stream, line, word } => match seen.stream_word(word) {
             Some(word) => {
                 let (stream, line) = (*stream, *line);
                 put_stream(out, alloc, seen, StreamFault { stream, line, word });

@@ -1,5 +1,7 @@
 //! What a run has read of the session that is explained.
+use super::words::{DocumentWord, StreamWord};
 use app_text::Source;
+use def_format::PROCESS_LIMIT;
 use pd_spec::{Options, Spec};
 use read_notes::EventNotes;
 use std::alloc::Global;
@@ -28,16 +30,39 @@ pub struct Seen<'a> {
     pub order: &'a str,
     /// What was noted of events, if notes were read.
     pub notes: Option<&'a EventNotes>,
+    /// How many processes the document may have if it is that of a run of any length, and no session's.
+    pub run_limit: Option<usize>,
 }
 
 impl<'a> Seen<'a> {
     /// The document, with what was asked, if its bytes are known and it isn't refused.
     pub fn spec(&self, alloc: Global) -> Option<Spec> {
         let source = self.document?;
+        let limit = self.run_limit.unwrap_or(PROCESS_LIMIT);
         match self.options {
-            Some(options) => Spec::read_with_options(alloc, source.bytes, options).ok(),
+            Some(options) => Spec::read_within(alloc, limit, source.bytes, options).ok(),
             None => Spec::read(alloc, source.bytes).ok(),
         }
+    }
+
+    /// The word that a report has of the document, or what it means of a run.
+    pub(crate) fn document_word(&self, text: &str) -> Option<DocumentWord> {
+        let word = DocumentWord::of(text)?;
+        Some(if self.run_limit.is_some() {
+            word.of_run()
+        } else {
+            word
+        })
+    }
+
+    /// The word that a report has of a stream, or what it means of a run.
+    pub(crate) fn stream_word(&self, text: &str) -> Option<StreamWord> {
+        let word = StreamWord::of(text)?;
+        Some(if self.run_limit.is_some() {
+            word.of_run()
+        } else {
+            word
+        })
     }
 
     /// The stream with this number, which is counted from 1, if something is known of it.

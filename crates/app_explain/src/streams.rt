@@ -40,6 +40,7 @@ fn meaning(word: StreamWord) -> &'static str {
         StreamWord::Value => "the value of a variable isn't a whole number.",
         StreamWord::MessageId => "the id of a message has no byte, or more than 64.",
         StreamWord::Events => "the process has more than 10,000 events.",
+        StreamWord::RunEvents => "the process has more than 2,147,483,647 events.",
         StreamWord::Unended => "the stream ends without the line that ends it.",
         StreamWord::Read => "it can't be read to its end.",
         StreamWord::Taken => "an earlier stream is one of the same process.",
@@ -63,6 +64,7 @@ also with \"set\"; and {\"end\":true} last."
         }
         StreamWord::MessageId => "a text of 1 to 64 bytes, as \"left-1\".",
         StreamWord::Events => "at most 10,000 events of a process.",
+        StreamWord::RunEvents => "at most 2,147,483,647 events of a process.",
         StreamWord::Unended => "{\"end\":true} as the last line.",
         StreamWord::Taken => "one stream for each process.",
         StreamWord::UnknownProcess | StreamWord::UnknownVar | StreamWord::Read => "",
@@ -80,6 +82,7 @@ pub(crate) fn advice(word: StreamWord) -> &'static str {
         StreamWord::Json =>
             "look how the line was written: two writers may share the file; or a crash cut it off, then put \
 {\"end\":true} in its place.",
+        StreamWord::RunEvents => "record fewer events of it, or end the recording sooner.",
         StreamWord::Shape => "have the recorder write one of these.",
         StreamWord::Join =>
             "have the recorder write that line once, before all others; for two runs, take two files.",

@@ -7,6 +7,8 @@ pub enum DocumentWord {
     Json,
     Shape,
     Processes,
+    /// Of a run of any length: it has none, or too many.
+    RunProcesses,
     Name,
     NameTwice,
     Vars,
@@ -30,6 +32,14 @@ impl DocumentWord {
             "width" => Some(DocumentWord::Width),
             "version" => Some(DocumentWord::Version),
             _ => None,
+        }
+    }
+
+    /// The one that means the same of a run of any length, whose limits are others.
+    pub(crate) fn of_run(self) -> DocumentWord {
+        match self {
+            DocumentWord::Processes => DocumentWord::RunProcesses,
+            word => word,
         }
     }
 }
@@ -73,6 +83,8 @@ pub enum StreamWord {
     Value,
     MessageId,
     Events,
+    /// Of a run of any length: there are too many.
+    RunEvents,
     Unended,
     Read,
     Taken,
@@ -96,6 +108,14 @@ impl StreamWord {
             "read" => Some(StreamWord::Read),
             "taken" => Some(StreamWord::Taken),
             _ => None,
+        }
+    }
+
+    /// The one that means the same of a run of any length, whose limits are others.
+    pub(crate) fn of_run(self) -> StreamWord {
+        match self {
+            StreamWord::Events => StreamWord::RunEvents,
+            word => word,
         }
     }
 }

@@ -48,11 +48,11 @@ pub trait FileSource: Sync {
     /// If it is there already, or can't be made.
     fn create(&self, name: &str) -> io::Result<Self::Sink>;
 
-    /// Makes the folder of this name, unless there is one in which nothing is.
+    /// Makes the folder of this name, unless there is one in which nothing is. It gives whether it was made.
     ///
     /// # Errors
     /// If something else of that name is there, or it can't be made.
-    fn make_folder(&self, alloc: Global, name: &str) -> io::Result<()>;
+    fn make_folder(&self, alloc: Global, name: &str) -> io::Result<bool>;
 
     /// Gives a file another name, in place of the file that has that one.
     ///
@@ -65,6 +65,12 @@ pub trait FileSource: Sync {
     /// # Errors
     /// If it can't be removed.
     fn remove(&self, name: &str) -> io::Result<()>;
+
+    /// Removes the folder of this name, in which nothing is.
+    ///
+    /// # Errors
+    /// If it can't be removed, as where something is in it.
+    fn remove_folder(&self, name: &str) -> io::Result<()>;
 
     /// How many bytes the file of this name has, if it can be read a second time and that is known, and else 0.
     fn size(&self, _name: &str) -> u64 {
@@ -143,16 +149,17 @@ where
         Ok(Retried::new(fs::File::create_new(self, name)?))
     }
 
-    fn make_folder(&self, alloc: Global, name: &str) -> io::Result<()> {
+    fn make_folder(&self, alloc: Global, name: &str) -> io::Result<bool> {
         match make_one(self, name) {
+            Ok(()) => return Ok(true),
             Err(error) if error.kind() == ErrorKind::AlreadyExists => {}
-            made => return made,
+            Err(error) => return Err(error),
         }
         let path = format!(in alloc; "{name}/")?;
         if has_files(&mut Retried::new(self.open_dir(&path)?))? {
             return Err(io::Error::from(ErrorKind::DirectoryNotEmpty));
         }
-        Ok(())
+        Ok(false)
     }
 
     fn rename(&self, name: &str, other: &str) -> io::Result<()> {
@@ -167,6 +174,10 @@ where
 
     fn remove(&self, name: &str) -> io::Result<()> {
         fs::remove_file(self, name)
+    }
+
+    fn remove_folder(&self, name: &str) -> io::Result<()> {
+        fs::remove_dir(self, name)
     }
 
     fn size(&self, name: &str) -> u64 {

@@ -47,7 +47,7 @@ impl<'f, 'p, F: FileSource> FileSource for PartFiles<'f, 'p, F> {
         self.files.create(name)
     }
 
-    fn make_folder(&self, alloc: Global, name: &str) -> io::Result<()> {
+    fn make_folder(&self, alloc: Global, name: &str) -> io::Result<bool> {
         self.files.make_folder(alloc, name)
     }
 
@@ -57,6 +57,10 @@ impl<'f, 'p, F: FileSource> FileSource for PartFiles<'f, 'p, F> {
 
     fn remove(&self, name: &str) -> io::Result<()> {
         self.files.remove(name)
+    }
+
+    fn remove_folder(&self, name: &str) -> io::Result<()> {
+        self.files.remove_folder(name)
     }
 
     fn size(&self, name: &str) -> u64 {

@@ -42,7 +42,7 @@ impl<'a, F: FileSource, R: Clock + Eprint + Sync> FileSource for ShownFiles<'a, 
         self.files.create(name)
     }
 
-    fn make_folder(&self, alloc: Global, name: &str) -> io::Result<()> {
+    fn make_folder(&self, alloc: Global, name: &str) -> io::Result<bool> {
         self.files.make_folder(alloc, name)
     }
 
@@ -52,6 +52,10 @@ impl<'a, F: FileSource, R: Clock + Eprint + Sync> FileSource for ShownFiles<'a, 
 
     fn remove(&self, name: &str) -> io::Result<()> {
         self.files.remove(name)
+    }
+
+    fn remove_folder(&self, name: &str) -> io::Result<()> {
+        self.files.remove_folder(name)
     }
 
     fn size(&self, name: &str) -> u64 {

@@ -1,15 +1,15 @@
 -- What is left by the bytes that were read is what is to be left by the files.
-use Rattle.std.proofs.Common.{◌≡◌, ℕ, suc, zero, List, [], ◌∷◌, map, take, Option, Some, Ok, refl, sym, subst, inl, inr, false, arith}
+use Rattle.std.proofs.Common.{◌≡◌, ℕ, suc, zero, List, [], ◌∷◌, length, map, take, Option, Some, Ok, refl, sym, subst, inl, inr, false, arith}
 use Rattle.std.specs.Prelude.{All, codes}
 use Rattle.std.specs.List.{AllZip}
 use Rattle.std.specs.Io.KnownBytes.{Appends}
 use Rattle.def_format.specs.Documents.{Document, Inquiry, Options, inquiry_of}
 use Rattle.def_judgement.specs.Writes.{IsWholeInput, Source}
-use Rattle.def_recordings.specs.Recordings.{IsRefusedRun, IsRun, of_document as of_refused, of_streams}
+use Rattle.def_recordings.specs.Recordings.{IsRefusedRun, IsRun, of_document as of_refused, of_streams, recorded_process_limit}
 use Rattle.def_format.specs.Reports.{Refusal}
 use Rattle.app_arguments.specs.Statuses.{Failed, File, MayBeUnread, OfDocument, WriteFailure, sources_of}
 use Rattle.app_host.specs.FileSources.{IsReadOf, Knows, SameOutline}
-use Rattle.app_host.proofs.DocumentPrefixes.{same_document, same_refusal}
+use Rattle.app_host.proofs.DocumentPrefixes.{document_within, refusal_within}
 use Rattle.app_host.proofs.FilesRead.{of_document, of_known_fate, up_to_weaker, whole_of_file}
 use Rattle.app_host.proofs.UnreadFiles.{keeps_same}
 use Rattle.app_host.proofs.WrittenSoFar.{up_to}
@@ -30,7 +30,7 @@ made_text inquiry streams made is = record {
   document = is.document;
   recorded = is.recorded;
   first = line_of (codes "run") made.run;
-  second = counts_line (codes "session") made.run.processes made.session.events made.session.messages;
+  second = counts_line (codes "session") (length made.session.places.items) made.session.events made.session.messages;
   is_first = record {
     is_run = is.is_run;
     messages = made.run.messages;
@@ -43,7 +43,7 @@ made_text inquiry streams made is = record {
     is_reduced = is.reduction.reduced;
     messages = made.session.messages;
     has_messages = is.reduction.all_messages;
-    is_line = rw (is.counts.all_processes, is.reduction.all_events) refl;
+    is_line = rw (is.reduction.same_places, is.reduction.all_events) refl;
   };
   is_text = refl;
 }
@@ -108,6 +108,15 @@ unsaved files options document streams outcome come old = record {
   holds = inl (keeps_same old);
 }
 
+-- the folder isn't made
+pub unreserved : (files : List ℕ → File) (options : Options) (document : List ℕ) (streams : List (List ℕ))
+    (read : List ℕ) → IsReadOf read (files document).source → (old : Option (List ℕ))
+    → RunLeaves files options document streams (Failed WriteFailure) old old
+unreserved files options document streams read is old =
+    of_document options (files document) read (Unit {0})
+    (λ inquiry. ReduceLeaves inquiry (sources_of (map files streams)) (Failed WriteFailure) old old) is
+    (λ bytes same _. inl (keeps_same old)) tt
+
 -- the session that is written has the answers of the run
 pub session_of_files : (files : List ℕ → File) (options : Options) (document : List ℕ) (streams : List (List ℕ))
     (made : MadeSession) → ComesOfFiles files options document streams (Made made)
@@ -126,7 +135,7 @@ module _ (options : Options) (read document : List ℕ) (same : SameOutline opti
   same_run : (streams : List (List ℕ)) (of : Document) (recorded : _)
       → IsRun (inquiry_of options read) streams of recorded → IsRun (inquiry_of options document) streams of recorded
   same_run streams of recorded is = record {
-    is_document = same_document options read document of same is.is_document;
+    is_document = document_within recorded_process_limit options read document of same is.is_document;
     results = is.results;
     are_results = is.are_results;
     traces = is.traces;
@@ -139,9 +148,9 @@ module _ (options : Options) (read document : List ℕ) (same : SameOutline opti
       → IsRefusedRun (inquiry_of options read) streams refusal
       → IsRefusedRun (inquiry_of options document) streams refusal
   same_refused streams refusal (of_refused fault is tells) =
-      of_refused fault (same_refusal options read document fault same is) tells
+      of_refused fault (refusal_within recorded_process_limit options read document fault same is) tells
   same_refused streams refusal (of_streams of results is are reported) =
-      of_streams of results (same_document options read document of same is) are reported
+      of_streams of results (document_within recorded_process_limit options read document of same is) are reported
 
   same_refused_text : (streams : List (List ℕ)) (text : List ℕ)
       → IsRefusedText (inquiry_of options read) streams text → IsRefusedText (inquiry_of options document) streams text

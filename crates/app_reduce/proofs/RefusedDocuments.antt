@@ -5,9 +5,9 @@ use Rattle.def_format.specs.Documents as documents
 use Rattle.def_format.specs.PredicateTexts.{PredicateFault}
 use Rattle.def_format.specs.RefusalWords.{document_refusal}
 use Rattle.def_format.specs.Reports.{Refusal, Refused}
-use Rattle.def_recordings.specs.Recordings.{of_document}
+use Rattle.def_recordings.specs.Recordings.{of_document, recorded_process_limit}
 use Rattle.pd_pred.specs.Views.{predicate_fault_view}
-use Rattle.pd_spec.specs.Views.{IsFaultOf}
+use Rattle.pd_spec.specs.Views.{IsFaultWithin}
 use Rattle.pd_spec.specs.declared.fault.SpecFault.{SpecFault}
 use Rattle.pd_spec.specs.declared.fault.SpecFault.TheVariants as faults
 use Rattle.judge_session.specs.Refusals.{IsDocumentRefusal}
@@ -15,7 +15,7 @@ use Rattle.app_reduce.specs.Outcomes.{IsRefusal}
 
 -- the refusal of a document for this fault
 by_fault : (inquiry : Inquiry) (streams : List (List ℕ)) (fault : documents.DocumentFault) (refusal : Refusal)
-    → documents.IsRefusedDocument inquiry fault → refusal ≡ document_refusal fault
+    → documents.IsRefusedWithin recorded_process_limit inquiry fault → refusal ≡ document_refusal fault
     → IsRefusal inquiry streams (Refused refusal)
 by_fault inquiry streams fault refusal is tells = record {
   refusal = refusal;
@@ -24,7 +24,8 @@ by_fault inquiry streams fault refusal is tells = record {
 }
 
 pub refused_run : (asked : Inquiry) (streams : List (List ℕ)) (fault : SpecFault) (refusal : Refusal)
-    → IsFaultOf asked fault → IsDocumentRefusal fault refusal → IsRefusal asked streams (Refused refusal)
+    → IsFaultWithin recorded_process_limit asked fault → IsDocumentRefusal fault refusal
+    → IsRefusal asked streams (Refused refusal)
 refused_run asked streams faults.Long refusal is tells = by_fault asked streams documents.Long refusal is tells
 refused_run asked streams faults.Json refusal is tells = by_fault asked streams documents.Json refusal is tells
 refused_run asked streams faults.Shape refusal is tells = by_fault asked streams documents.Shape refusal is tells

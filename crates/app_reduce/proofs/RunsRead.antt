@@ -3,18 +3,19 @@ use Rattle.std.proofs.Common.{◌≡◌, ℕ, suc, ◌≤◌, Bool, true, false,
 use Rattle.std.specs.Prelude.{nat_lt, ◌++◌}
 use Rattle.std.specs.List.{AllZip}
 use Rattle.std.proofs.lemmas.List.{length-map}
-use Rattle.def_format.proofs.DocumentParts.{lawful_parts}
-use Rattle.def_format.specs.Documents.{Document, Inquiry, IsDocument}
-use Rattle.def_format.specs.Limits.{stream_count_limit}
+use Rattle.def_format.proofs.DocumentNames.{sound_is_faultless}
+use Rattle.def_format.proofs.DocumentParts.{within}
+use Rattle.def_format.proofs.Faultless.{faultless}
+use Rattle.def_format.specs.Documents.{Document, Inquiry, IsDocumentWithin}
 use Rattle.def_format.specs.Names.{ProcessNames}
 use Rattle.def_format.specs.Readings.{Trace}
 use Rattle.def_format.specs.Reports as reports
 use Rattle.def_format.specs.Reports.{report_text}
-use Rattle.def_format.specs.Sessions.{SessionFault, StreamResult, first_stream_fault, session, trace_of, traces_from}
-use Rattle.def_judgement.specs.Judgements.{IsReportOfResults, events_of_traces, recorded_of}
+use Rattle.def_format.specs.Sessions.{SessionFault, StreamResult, first_stream_fault, session_within, trace_of, traces_from}
+use Rattle.def_judgement.specs.Judgements.{IsReportOfSession, events_of_traces, recorded_of}
 use Rattle.def_judgement.specs.Writes.{IsWholeInput, Source}
 use Rattle.def_model.specs.Order.{IsWellFormed}
-use Rattle.def_recordings.specs.Recordings.{AreRecordedResults, IsRun, of_streams}
+use Rattle.def_recordings.specs.Recordings.{AreRecordedResults, IsRun, of_streams, recorded_process_limit, recorded_stream_limit}
 use Rattle.judge_recordings.specs.Runs.{IsRunOf}
 use Rattle.judge_recordings.specs.declared.recordings.RecordedRun.{RecordedRun}
 use Rattle.judge_session.specs.Unanswered.{IsUnanswered}
@@ -66,27 +67,51 @@ traces_length p (name ∷ others) results traces e =
         let same : trace ∷ later ≡ traces = cc in
         sym (ap length same) ∙ ap suc (more later from)
 
-session_length : (names : List ProcessNames) (streams : ℕ) (results : List StreamResult) (traces : List Trace)
-    → session names streams results ≡ Ok traces → length traces ≡ length names
-session_length names streams results traces e =
-    go (nat_lt stream_count_limit streams) (first_stream_fault [] results) refl refl
+session_length : (most : ℕ) (names : List ProcessNames) (streams : ℕ) (results : List StreamResult)
+    (traces : List Trace) → session_within most names streams results ≡ Ok traces → length traces ≡ length names
+session_length most names streams results traces e =
+    go (nat_lt most streams) (first_stream_fault [] results) refl refl
   where
-    go : (b : Bool) (o : Option SessionFault) → nat_lt stream_count_limit streams ≡ b
+    go : (b : Bool) (o : Option SessionFault) → nat_lt most streams ≡ b
         → first_stream_fault [] results ≡ o → length traces ≡ length names
     go true o many at = absurd (let h = rw many at e in cc)
     go false (Some fault) few at = absurd (let h = rw (few, at) at e in cc)
     go false None few at = traces_length 0 names results traces (rw (few, at) at e)
 
+-- ---- the document
+
+module _ (inquiry : Inquiry) (document : Document) (is : IsDocumentWithin recorded_process_limit inquiry document)
+  where
+    some_named : 1 ≤ length document.names
+    some_named =
+        let clear = faultless recorded_process_limit is.outline
+        (sound_is_faultless recorded_process_limit inquiry is.outline is.sound) in
+        let few = within 1 recorded_process_limit (length is.outline.processes) clear.processes in
+        let same : length document.names ≡ length is.outline.processes =
+        ap length is.names ∙ length-map is.outline.processes _ in
+        subst (λ (n : ℕ). 1 ≤ n) (sym same) few.0
+
+    -- a row of initial values for each process
+    row_each : length document.initial ≡ length document.names
+    row_each =
+        ap length is.initial ∙ (length-map is.outline.processes _
+        ∙ sym (ap length is.names ∙ length-map is.outline.processes _))
+
 module _ (inquiry : Inquiry) (streams : List (List ℕ)) (document : Document) (traces : List Trace)
     (are : AreTracesOf inquiry streams document traces) where
+  pub as_many_named : length document.names ≡ length (events_of_traces traces)
+  as_many_named =
+      sym (length-map traces (λ (trace : Trace). trace.events)
+      ∙ session_length recorded_stream_limit document.names (length streams) are.results traces are.joined)
+
+  pub as_many_rows : length document.initial ≡ length (events_of_traces traces)
+  as_many_rows = row_each inquiry document are.is_document ∙ as_many_named
+
   pub some_process : 1 ≤ length (events_of_traces traces)
   some_process =
-      let all : length (events_of_traces traces) ≡ length traces =
-      length-map traces (λ (trace : Trace). trace.events) in
-      let each : length traces ≡ length document.names =
-      session_length document.names (length streams) are.results traces are.joined in
-      let some : 1 ≤ length document.names = (lawful_parts inquiry document are.is_document).some_process in
-      omega (arith, all, each, some)
+      let each : length document.names ≡ length (events_of_traces traces) = as_many_named in
+      let some : 1 ≤ length document.names = some_named inquiry document are.is_document in
+      omega (arith, each, some)
 
   pub is_run : IsWellFormed document.version (events_of_traces traces)
       → IsRun inquiry streams document (recorded_of document traces)
@@ -133,10 +158,11 @@ same_report : (a b : reports.Report) → ◌≡◌ {A = Option reports.Report} (
 same_report a b e = cc
 
 pub refused_streams : (inquiry : Inquiry) (streams : List (List ℕ)) (document : Document)
-    (results : List StreamResult) (unanswered : Unanswered) (outcome : Outcome) → IsDocument inquiry document
-    → AreRecordedResults document.names streams results
-    → IsUnanswered (IsReportOfResults document (length streams) results) unanswered → IsRefusedBy unanswered outcome
-    → ComesOfRun inquiry streams outcome
+    (results : List StreamResult) (unanswered : Unanswered) (outcome : Outcome)
+    → IsDocumentWithin recorded_process_limit inquiry document → AreRecordedResults document.names streams results
+    → IsUnanswered (IsReportOfSession document
+    (session_within recorded_stream_limit document.names (length streams) results)) unanswered
+    → IsRefusedBy unanswered outcome → ComesOfRun inquiry streams outcome
 refused_streams inquiry streams document results (Refused refusal) (outcomes.Refused report) is are h by = record {
   refusal = refusal_view refusal;
   is_refused = of_streams document results is are h;
@@ -173,7 +199,7 @@ of_run inquiry sources (outcomes.Unmade run) h = h
 of_run inquiry sources (outcomes.Made made) h = h
 
 module _ (inquiry : Inquiry) (sources : List Source) (document : Document) (results : List StreamResult) (count : ℕ)
-    (is : IsDocument inquiry document) (all : count ≡ length sources)
+    (is : IsDocumentWithin recorded_process_limit inquiry document) (all : count ≡ length sources)
     (come : AllZip (ComesTo document.names) sources results) (outcome : Outcome) where
   -- what comes of all streams of which these results come
   of_results : ((streams : List (List ℕ)) → AreRecordedResults document.names streams results
@@ -184,7 +210,8 @@ module _ (inquiry : Inquiry) (sources : List Source) (document : Document) (resu
       (read.0, read.1, go read.0 read.2 (all ∙ sym (as_many sources read.0 read.1)))
 
   pub run_of_results : (run : RecordedRun)
-      → ((traces : List Trace) × (session document.names count results ≡ Ok traces) × IsRunOf document traces run)
+      → ((traces : List Trace) × (session_within recorded_stream_limit document.names count results ≡ Ok traces)
+      × IsRunOf document traces run)
       → ((streams : List (List ℕ)) (traces : List Trace) → AreTracesOf inquiry streams document traces
       → IsRunOf document traces run → ComesOfRun inquiry streams outcome)
       → OfStreams sources (λ streams. ComesOfRun inquiry streams outcome)
@@ -193,12 +220,15 @@ module _ (inquiry : Inquiry) (sources : List Source) (document : Document) (resu
         is_document = is;
         results = results;
         are_results = are;
-        joined = subst (λ (n : ℕ). session document.names n results ≡ Ok ran.0) many ran.1;
+        joined = subst (λ (n : ℕ).
+            session_within recorded_stream_limit document.names n results ≡ Ok ran.0) many ran.1;
       }) ran.2)
 
   pub refusal_of_results : (unanswered : Unanswered)
-      → IsUnanswered (IsReportOfResults document count results) unanswered → IsRefusedBy unanswered outcome
+      → IsUnanswered (IsReportOfSession document
+      (session_within recorded_stream_limit document.names count results)) unanswered → IsRefusedBy unanswered outcome
       → OfStreams sources (λ streams. ComesOfRun inquiry streams outcome)
   refusal_of_results unanswered h by =
       of_results (λ streams are many. refused_streams inquiry streams document results unanswered outcome is are
-      (subst (λ (n : ℕ). IsUnanswered (IsReportOfResults document n results) unanswered) many h) by)
+      (subst (λ (n : ℕ). IsUnanswered (IsReportOfSession document
+      (session_within recorded_stream_limit document.names n results)) unanswered) many h) by)

@@ -1,16 +1,16 @@
 -- What comes of a recorded run.
 use Rattle.std.specs.Prelude.{◌≡◌, ◌⊎◌, ◌++◌, ℕ, List, Ok, Some, codes, length}
 use Rattle.def_model.specs.Predicates.{Recorded}
-use Rattle.def_format.specs.Documents.{Document, Inquiry, IsDocument}
+use Rattle.def_format.specs.Documents.{Document, Inquiry, IsDocumentWithin}
 use Rattle.def_format.specs.Names.{ProcessNames}
 use Rattle.def_format.specs.Readings.{Trace}
 use Rattle.def_format.specs.Reports.{Refused, report_text}
 use Rattle.def_format.specs.Reports as reports
-use Rattle.def_format.specs.Sessions.{StreamResult, session}
+use Rattle.def_format.specs.Sessions.{StreamResult, session_within}
 use Rattle.def_judgement.specs.Writes.{IsWholeInput, Source}
 use Rattle.def_model.specs.Cuts.{total}
 use Rattle.def_model.specs.Messages.{HasMessages}
-use Rattle.def_recordings.specs.Recordings.{AreRecordedResults, IsRecordedResult, IsRefusedRun, IsRun}
+use Rattle.def_recordings.specs.Recordings.{AreRecordedResults, IsRecordedResult, IsRefusedRun, IsRun, recorded_process_limit, recorded_stream_limit}
 use Rattle.judge_reduction.specs.ReducedSessions.{IsReductionOf}
 use Rattle.judge_session.specs.Unanswered.{refused_report}
 use Rattle.judge_session.specs.declared.unanswered.Unanswered.{Unanswered}
@@ -30,10 +30,10 @@ ComesTo names source result = (bytes : List ℕ) × IsWholeInput source bytes ×
 -- the document of an inquiry and these streams come to these traces
 pub record AreTracesOf (inquiry : Inquiry) (streams : List (List ℕ)) (document : Document) (traces : List Trace) :
     Type 0 where
-  pub is_document : IsDocument inquiry document
+  pub is_document : IsDocumentWithin recorded_process_limit inquiry document
   pub results : List StreamResult
   pub are_results : AreRecordedResults document.names streams results
-  pub joined : session document.names (length streams) results ≡ Ok traces
+  pub joined : session_within recorded_stream_limit document.names (length streams) results ≡ Ok traces
 
 -- ---- refusals
 
@@ -60,7 +60,7 @@ outcome_text (outcomes.Refused report) = report_text (report_view report)
 outcome_text (outcomes.Unmade run) = line_of (codes "run") run ++ codes "no session\n"
 outcome_text (outcomes.Made made) =
     line_of (codes "run") made.run
-    ++ counts_line (codes "session") made.run.processes made.session.events made.session.messages
+    ++ counts_line (codes "session") (length made.session.places.items) made.session.events made.session.messages
 
 -- ---- outcomes
 

@@ -39,7 +39,8 @@ pub record IsSessionLine (document : Document) (recorded : Recorded) (line : Lis
   pub is_reduced : IsReducedSession document recorded bytes streams
   pub messages : ℕ
   pub has_messages : HasMessages is_reduced.image.events messages
-  pub is_line : line ≡ counts_line (codes "session") (length document.names) (total is_reduced.image.events) messages
+  pub is_line : line
+      ≡ counts_line (codes "session") (length is_reduced.places) (total is_reduced.image.events) messages
 
 -- ---- the texts
 

@@ -11,19 +11,23 @@
 //! - `texts`: the text of that
 //! - `recorded_streams`: reads recorded streams
 //! - `reductions`: reduces a recorded run
+//! - `notes`: notes that say which events of the run those of the session are
 //! - `unwritten`: which file or folder couldn't be written, and why
 //! - `folder`: writes a session into its folder
 //! - `reduced_files`: reduces the recorded run in files
+//! - `short_texts`: long explanations, cut in their middle
 //! - `ends`: the exit status, what is reported, and an explanation
 #![tactic(auto)]
 
 mod counts;
 mod ends;
 mod folder;
+mod notes;
 mod outcome;
 mod recorded_streams;
 mod reduced_files;
 mod reductions;
+mod short_texts;
 mod texts;
 mod unwritten;
 

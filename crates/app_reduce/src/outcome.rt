@@ -13,6 +13,8 @@ pub struct MadeSession {
     pub run: Counts,
     /// The session.
     pub session: ReducedSession,
+    /// For each process of the run the numbers of its kept events, counted from 1, which ascend.
+    pub numbers: Vec<Vec<u64>>,
 }
 
 /// What comes of a recorded run.

@@ -1,9 +1,10 @@
 //! Reduces a recorded run.
 ghost use Rattle.app_reduce.specs.Outcomes.{AreTracesOf, ComesOf, ComesOfRun, IsRefusal, IsRefusedBy};
 ghost use Rattle.app_reduce.specs.ReducedTexts.{OfStreams};
-ghost use Rattle.def_format.specs.Documents.{IsDocument};
+ghost use Rattle.def_format.specs.Documents.{IsDocumentWithin};
 ghost use Rattle.def_format.specs.Readings as readings;
 ghost use Rattle.def_judgement.specs.Writes.{Source};
+ghost use Rattle.def_recordings.specs.Recordings.{recorded_process_limit};
 ghost use Rattle.judge_recordings.specs.Runs.{IsRunOf};
 ghost use Rattle.judge_session.specs.Inquiries.{inquiry_view};
 ghost use Rattle.judge_session.specs.Unanswered.{IsUnanswered};
@@ -13,6 +14,7 @@ ghost use Rattle.std.specs.Prelude.{◌≡◌, ◌⊎◌, ℕ, All, Err, IfErr, 
 use super::counts::Counts;
 use super::outcome::{MadeSession, Outcome};
 use super::recorded_streams::read_streams;
+use def_recordings::RECORDED_PROCESS_LIMIT;
 use judge_recordings::{RecordedRun, recorded_run};
 use judge_reduction::reduced_session;
 use judge_session::{EngineFault, Inquiry, Unanswered, of_document, settled};
@@ -28,11 +30,13 @@ use std::thread::Threads;
 /// # Errors
 /// `Refused` if the document is refused, and `Memory`.
 fn read_document(alloc: Global, inquiry: Inquiry<'_, '_, '_>) -> Result<Spec, Unanswered>
-    ensures read { IfOk result (λ spec. IsDocument (inquiry_view inquiry.entry) (document_view spec)) }
+    ensures read { IfOk result (λ spec. IsDocumentWithin recorded_process_limit (inquiry_view inquiry.entry)
+        (document_view spec)) }
     ensures refused { IfErr result (IsUnanswered (λ report. (streams : List (List ℕ))
         → IsRefusal (inquiry_view inquiry.entry) streams report)) }
 {
-    match Spec::read_with_options(alloc, inquiry.document, inquiry.options) {
+    let (document, options) = (inquiry.document, inquiry.options);
+    match Spec::read_within(alloc, RECORDED_PROCESS_LIMIT, document, options) {
         Ok(spec) => Ok(spec),
         Err(fault) => Err(Unanswered::Refused(of_document(alloc, fault)?)),
     }
@@ -82,6 +86,7 @@ fn run_outcome<S: RandomSource + Threads + Wait + Sync>(
             spec,
             run: counts,
             session,
+            numbers: kept.numbers,
         })),
         None => Ok(Outcome::Unmade(counts)),
     }
@@ -98,7 +103,7 @@ fn streams_outcome<S: RandomSource + Threads + Wait + Sync, R: ByteSource + Drop
     spec: Spec,
     sources: Vec<R>,
 ) -> Result<Outcome, EngineFault>
-    requires document { IsDocument (inquiry_view inquiry) (document_view spec) }
+    requires document { IsDocumentWithin recorded_process_limit (inquiry_view inquiry) (document_view spec) }
     requires open { All (λ source. R.has_ended source ≡ false) sources.items }
     ensures outcome { IfOk result (λ outcome. OfStreams (map R.left sources.items)
         (λ streams. ComesOfRun (inquiry_view inquiry.entry) streams outcome)) }

@@ -1,7 +1,7 @@
 //! The text of what comes of a recorded run.
 ghost use Rattle.app_reduce.specs.Outcomes.{line_of, outcome_text};
 ghost use Rattle.app_reduce.specs.ReducedTexts.{counts_line};
-ghost use Rattle.std.specs.Prelude.{◌≡◌, ◌++◌, IfOk, codes};
+ghost use Rattle.std.specs.Prelude.{◌≡◌, ◌++◌, IfOk, codes, length};
 
 use super::counts::{Counts, push_counts};
 use super::outcome::{MadeSession, Outcome};
@@ -21,10 +21,11 @@ fn unmade_text(alloc: Global, run: Counts) -> Result<Vec<u8>, AllocError>
 /// The text of a run, and of a session that has its answers.
 fn made_text(alloc: Global, made: &MadeSession) -> Result<Vec<u8>, AllocError>
     ensures { IfOk result (λ text. text.items ≡ line_of (codes "run") made.now.run
-        ++ counts_line (codes "session") made.now.run.processes made.now.session.events made.now.session.messages) }
+        ++ counts_line (codes "session") (length made.now.session.places.items) made.now.session.events
+        made.now.session.messages) }
 {
     let session = Counts {
-        processes: made.run.processes,
+        processes: made.session.places.len() as u64,
         events: made.session.events,
         messages: made.session.messages,
     };

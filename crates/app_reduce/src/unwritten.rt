@@ -33,6 +33,12 @@ impl Unwritten {
         }
     }
 
+    /// Notes that the folder of this name can't be written, for this reason.
+    pub(crate) fn note_reason(&mut self, alloc: Global, name: &str, reason: &str) {
+        self.has_failed = true;
+        self.failure = format!(in alloc; "{name}: {reason}").ok();
+    }
+
     /// Notes that the file or the folder of this name couldn't be written, and why.
     pub(crate) fn note(&mut self, alloc: Global, name: &str, error: &io::Error) {
         self.has_failed = true;

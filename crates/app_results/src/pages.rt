@@ -65,7 +65,7 @@ impl<'a> Pages<'a> {
             return true;
         };
         match files.make_folder(alloc, folder) {
-            Ok(()) => true,
+            Ok(_) => true,
             Err(error) if error.kind() == ErrorKind::DirectoryNotEmpty => true,
             Err(error) => {
                 self.unwritten.note_error(alloc, folder, &error);

@@ -1,18 +1,26 @@
--- What is recorded of a run, of any length: its streams are read as those of a session are, but may have any number of
--- bytes, and a process 2,147,483,647 events.
+-- What is recorded of a run, of any length: its document and its streams are read as those of a session are, but there
+-- may be 4,096 processes and 8,192 streams, a stream may have any number of bytes, and a process 2,147,483,647 events.
 use Rattle.std.specs.Prelude.{◌≡◌, ℕ, suc, nat_lt, if◌then◌else◌, List, [], ◌∷◌, length, Ok, Option, Some, None}
 use Rattle.std.specs.List.{AllZip}
 use Rattle.def_model.specs.Order.{IsWellFormed}
 use Rattle.def_model.specs.Predicates.{Recorded}
-use Rattle.def_format.specs.Documents.{Document, DocumentFault, Inquiry, IsDocument, IsRefusedDocument}
+use Rattle.def_format.specs.Documents.{Document, DocumentFault, Inquiry, IsDocumentWithin, IsRefusedWithin}
 use Rattle.def_format.specs.Limits.{line_byte_limit}
 use Rattle.def_format.specs.Lines.{FrameFault, LineTooLong, all_lines, numbered_from}
 use Rattle.def_format.specs.Names.{ProcessNames}
 use Rattle.def_format.specs.Readings.{Ended, Reading, Trace, reading_of_lines, result_of, stop_at_end, with_end}
 use Rattle.def_format.specs.RefusalWords.{document_refusal}
 use Rattle.def_format.specs.Reports.{Refusal, Refused}
-use Rattle.def_format.specs.Sessions.{StreamResult, session}
-use Rattle.def_judgement.specs.Judgements.{IsReportOfResults, events_of_traces, recorded_of}
+use Rattle.def_format.specs.Sessions.{StreamResult, session_within}
+use Rattle.def_judgement.specs.Judgements.{IsReportOfSession, events_of_traces, recorded_of}
+
+-- processes of a document
+abbrev pub recorded_process_limit : ℕ
+recorded_process_limit = 4096
+
+-- streams
+abbrev pub recorded_stream_limit : ℕ
+recorded_stream_limit = 8192
 
 -- events of a process
 abbrev pub recorded_event_limit : ℕ
@@ -54,19 +62,22 @@ AreRecordedResults names streams results = AllZip (IsRecordedResult names) strea
 -- process, and these are well formed.
 pub record IsRun (inquiry : Inquiry) (streams : List (List ℕ)) (document : Document) (recorded : Recorded) : Type 0
   where
-    pub is_document : IsDocument inquiry document
+    pub is_document : IsDocumentWithin recorded_process_limit inquiry document
     pub results : List StreamResult
     pub are_results : AreRecordedResults document.names streams results
     pub traces : List Trace
-    pub joined : session document.names (length streams) results ≡ Ok traces
+    pub joined : session_within recorded_stream_limit document.names (length streams) results ≡ Ok traces
     pub formed : IsWellFormed document.version (events_of_traces traces)
     pub is_recorded : recorded ≡ recorded_of document traces
 
 -- They make none, for this reason: what is wrong with the document, or else what the report of a session would say of
 -- streams that come to this.
 pub data IsRefusedRun (inquiry : Inquiry) (streams : List (List ℕ)) (refusal : Refusal) : Type 0 where
-  of_document : (fault : DocumentFault) → IsRefusedDocument inquiry fault → refusal ≡ document_refusal fault
+  of_document : (fault : DocumentFault) → IsRefusedWithin recorded_process_limit inquiry fault
+      → refusal ≡ document_refusal fault
       → IsRefusedRun inquiry streams refusal
-  of_streams : (document : Document) (results : List StreamResult) → IsDocument inquiry document
-      → AreRecordedResults document.names streams results
-      → IsReportOfResults document (length streams) results (Refused refusal) → IsRefusedRun inquiry streams refusal
+  of_streams : (document : Document) (results : List StreamResult)
+      → IsDocumentWithin recorded_process_limit inquiry document → AreRecordedResults document.names streams results
+      → IsReportOfSession document
+      (session_within recorded_stream_limit document.names (length streams) results) (Refused refusal)
+      → IsRefusedRun inquiry streams refusal

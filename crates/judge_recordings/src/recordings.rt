@@ -1,7 +1,8 @@
 //! The run of a session's streams.
 ghost use Rattle.def_format.specs.Readings as readings;
-ghost use Rattle.def_format.specs.Sessions.{session};
-ghost use Rattle.def_judgement.specs.Judgements.{IsReportOfResults, IsTracesReport};
+ghost use Rattle.def_format.specs.Sessions.{session_within};
+ghost use Rattle.def_judgement.specs.Judgements.{IsReportOfSession, IsTracesReport};
+ghost use Rattle.def_recordings.specs.Recordings.{recorded_stream_limit};
 ghost use Rattle.judge_recordings.specs.Runs.{IsRunOf};
 ghost use Rattle.judge_session.specs.Unanswered.{IsUnanswered};
 ghost use Rattle.pd_gather.specs.Views.{ReadingFitsWithin, results_view, traces_view};
@@ -10,8 +11,9 @@ ghost use Rattle.read_traces.specs.SessionTraces.{AreTracesWithin};
 ghost use Rattle.std.specs.Prelude.{◌≡◌, ℕ, All, IfErr, IfOk, List, Ok};
 
 use super::events::event_total;
+use def_recordings::RECORDED_STREAM_LIMIT;
 use judge_orders::{KeptRun, order_of_traces};
-use judge_session::{Unanswered, cycle_refusal, messages_of, traces_of};
+use judge_session::{Unanswered, cycle_refusal, messages_of, traces_within};
 use pd_clock::BuildFault;
 use pd_gather::Gathered;
 use pd_spec::Spec;
@@ -63,7 +65,7 @@ fn run_of<S: RandomSource>(
     }
 }
 
-/// The run that the streams of a session gave, of any number of events, or the first refusal, in the words of a report.
+/// The run that its streams gave, of any number of events, or the first refusal, in the words of a report.
 ///
 /// It takes time for the events and their settings, times the processes. The run has memory for the kept events alone.
 ///
@@ -78,11 +80,13 @@ pub fn recorded_run<S: RandomSource>(
     requires fits { (limit : ℕ) × All (ReadingFitsWithin limit (document_view spec.now).names)
         gathered.readings.items }
     ensures run { IfOk result (λ run. (traces : List readings.Trace)
-        × (session (document_view spec.now).names gathered.streams (results_view gathered.readings.items) ≡ Ok traces)
+        × (session_within recorded_stream_limit (document_view spec.now).names gathered.streams
+        (results_view gathered.readings.items) ≡ Ok traces)
         × IsRunOf (document_view spec.now) traces run) }
-    ensures refused { IfErr result (IsUnanswered (IsReportOfResults (document_view spec.now) gathered.streams
-        (results_view gathered.readings.items))) }
+    ensures refused { IfErr result (IsUnanswered (IsReportOfSession (document_view spec.now)
+        (session_within recorded_stream_limit (document_view spec.now).names gathered.streams
+        (results_view gathered.readings.items)))) }
 {
-    let traces = traces_of(alloc, spec, gathered)?;
+    let traces = traces_within(alloc, RECORDED_STREAM_LIMIT, spec, gathered)?;
     run_of(rt, alloc, spec, &traces)
 }

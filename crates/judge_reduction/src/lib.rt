@@ -1,6 +1,6 @@
 //! An ordinary session that has the answers of a run, by the order of the run alone: its document, and a stream for
-//! each process, as text. What is made is read back and compared before it is given, so that it needs no law how it is
-//! made.
+//! each process, as text. It has the processes of which predicates name variables, and no others. What is made is read
+//! back and compared before it is given, so that it needs no law how it is made.
 //!
 //! - `reduced`: the session of an order
 //! - `documents`: the text of its document
@@ -12,11 +12,11 @@
 //! - `readings`: what streams that were made come to
 //! - `counts`: how many events and messages a session of an order has
 //! - `checks`: whether texts are a session of an order
-//! - `same_documents`: whether two documents have the same processes and predicates
-//! - `same_names`: whether two documents have the same names
-//! - `same_values`: whether two documents have the same initial values
-//! - `same_predicates`: whether two documents have the same predicates
-//! - `same_trees`: whether two predicates are the same
+//! - `same_documents`: whether a document has some processes of another one, and its predicates
+//! - `same_names`: whether it has these processes, with their variables
+//! - `same_values`: whether it has their initial values
+//! - `same_predicates`: whether it has the predicates
+//! - `same_trees`: whether a predicate is another one under the numbers that some processes have
 #![tactic(auto)]
 
 mod checks;

@@ -1,7 +1,9 @@
-//! Whether two predicates are the same.
+//! Whether a predicate is another one under the numbers that some processes have.
+ghost use Rattle.def_long.specs.Renamed.{renamed, renamed_sum, renamed_term};
 ghost use Rattle.def_model.specs.Predicates as model;
-ghost use Rattle.pd_pred.specs.Trees.{comparison_view, sign_view, signed_term_view, sum_view, term_view, terms_view, tree_view};
-ghost use Rattle.std.specs.Prelude.{◌≡◌, true};
+ghost use Rattle.def_orders.specs.Selections.{numbers_in};
+ghost use Rattle.pd_pred.specs.Trees.{comparison_view, sign_view, sum_view, term_view, terms_view, tree_view};
+ghost use Rattle.std.specs.Prelude.{◌≡◌, slice_index_or, true};
 
 use pd_pred::{Comparison, Sign, SignedTerm, Sum, Term, Tree};
 
@@ -13,6 +15,17 @@ fn is_same_sign(first: Sign, second: Sign) -> bool
         (Sign::Plus, Sign::Plus) => true,
         (Sign::Minus, Sign::Minus) => true,
         _ => false,
+    }
+}
+
+/// The number that a process of those at these places has among all, of which there are `count`. It is `count` if it is
+/// none of these.
+fn number_in(places: &[usize], count: usize, process: usize) -> usize
+    ensures { result ≡ slice_index_or places.now process count }
+{
+    match places.get(process) {
+        Some(place) => *place,
+        None => count,
     }
 }
 
@@ -50,48 +63,60 @@ fn is_product(term: Term, factor: u32, process: usize, var: usize) -> bool
     }
 }
 
-/// Whether two terms are the same.
-fn is_same_term(first: Term, second: Term) -> bool
-    ensures { result ≡ true → term_view first ≡ term_view second }
+/// Whether the first term is the second one, if its processes are those at these places of `count`.
+fn is_same_term(places: &[usize], count: usize, first: Term, second: Term) -> bool
+    ensures { result ≡ true
+        → renamed_term (numbers_in places.now count) (term_view first) ≡ term_view second }
 {
     match first {
         Term::Number(number) => is_number(second, number),
-        Term::Variable { process, var } => is_variable(second, process, var),
+        Term::Variable { process, var } => {
+            is_variable(second, number_in(places, count, process), var)
+        }
         Term::Times {
             factor,
             process,
             var,
-        } => is_product(second, factor, process, var),
+        } => is_product(second, factor, number_in(places, count, process), var),
     }
 }
 
-/// Whether two terms with their signs are the same.
-fn is_same_signed(first: SignedTerm, second: SignedTerm) -> bool
-    ensures { result ≡ true → signed_term_view first ≡ signed_term_view second }
+/// Whether the first term with its sign is the second one, if its processes are those at these places of `count`.
+fn is_same_signed(places: &[usize], count: usize, first: SignedTerm, second: SignedTerm) -> bool
+    ensures sign { result ≡ true → sign_view first.sign ≡ sign_view second.sign }
+    ensures term { result ≡ true
+        → renamed_term (numbers_in places.now count) (term_view first.term) ≡ term_view second.term }
 {
-    is_same_sign(first.sign, second.sign) && is_same_term(first.term, second.term)
+    is_same_sign(first.sign, second.sign) && is_same_term(places, count, first.term, second.term)
 }
 
-/// Whether two lists of terms are the same.
-fn are_same_terms(first: &[SignedTerm], second: &[SignedTerm]) -> bool
-    ensures { result ≡ true → terms_view first.now ≡ terms_view second.now }
+/// Whether the first terms are the second ones, if their processes are those at these places of `count`.
+fn are_same_terms(
+    places: &[usize],
+    count: usize,
+    first: &[SignedTerm],
+    second: &[SignedTerm],
+) -> bool
+    ensures { result ≡ true
+        → renamed_sum (numbers_in places.now count) (terms_view first.now) ≡ terms_view second.now }
 {
     if first.len() != second.len() {
         return false;
     }
     for i in 0..first.len() {
-        if !is_same_signed(first[i], second[i]) {
+        if !is_same_signed(places, count, first[i], second[i]) {
             return false;
         }
     }
     true
 }
 
-/// Whether two sums are the same.
-fn is_same_sum(first: &Sum, second: &Sum) -> bool
-    ensures { result ≡ true → sum_view first.now ≡ sum_view second.now }
+/// Whether the first sum is the second one, if its processes are those at these places of `count`.
+fn is_same_sum(places: &[usize], count: usize, first: &Sum, second: &Sum) -> bool
+    ensures { result ≡ true
+        → renamed_sum (numbers_in places.now count) (sum_view first.now) ≡ sum_view second.now }
 {
-    are_same_terms(&first.terms, &second.terms)
+    are_same_terms(places, count, &first.terms, &second.terms)
 }
 
 /// Whether two signs of comparison are the same.
@@ -109,17 +134,28 @@ fn is_same_comparison(first: Comparison, second: Comparison) -> bool
     }
 }
 
-/// Whether the predicate compares these sums so.
-fn is_comparison(tree: &Tree, left: &Sum, comparison: Comparison, right: &Sum) -> bool
-    ensures { result ≡ true → model.Compare (sum_view left.now) (comparison_view comparison) (sum_view right.now)
-        ≡ tree_view tree.now }
+/// Whether the predicate compares these sums so, if their processes are those at these places of `count`.
+fn is_comparison(
+    places: &[usize],
+    count: usize,
+    left: &Sum,
+    comparison: Comparison,
+    right: &Sum,
+    tree: &Tree,
+) -> bool
+    ensures { result ≡ true → renamed (numbers_in places.now count)
+        (model.Compare (sum_view left.now) (comparison_view comparison) (sum_view right.now)) ≡ tree_view tree.now }
 {
     match tree {
         Tree::Compare {
             left: l,
             comparison: c,
             right: r,
-        } => is_same_comparison(comparison, *c) && is_same_sum(left, l) && is_same_sum(right, r),
+        } => {
+            is_same_comparison(comparison, *c)
+                && is_same_sum(places, count, left, l)
+                && is_same_sum(places, count, right, r)
+        }
         _ => false,
     }
 }
@@ -144,11 +180,12 @@ fn is_never(tree: &Tree) -> bool
     }
 }
 
-/// Whether two predicates are the same.
+/// Whether the first predicate is the second one, if its processes are those at these places of `count`.
 ///
 /// It takes time for one of them.
-pub(crate) fn is_same_tree(first: &Tree, second: &Tree) -> bool
-    ensures { result ≡ true → tree_view first.now ≡ tree_view second.now }
+pub(crate) fn is_same_tree(places: &[usize], count: usize, first: &Tree, second: &Tree) -> bool
+    ensures { result ≡ true
+        → renamed (numbers_in places.now count) (tree_view first.now) ≡ tree_view second.now }
 {
     match first {
         Tree::Always => is_always(second),
@@ -157,17 +194,21 @@ pub(crate) fn is_same_tree(first: &Tree, second: &Tree) -> bool
             left,
             comparison,
             right,
-        } => is_comparison(second, left, *comparison, right),
+        } => is_comparison(places, count, left, *comparison, right, second),
         Tree::Not(inner) => match second {
-            Tree::Not(other) => is_same_tree(inner, other),
+            Tree::Not(other) => is_same_tree(places, count, inner, other),
             _ => false,
         },
         Tree::And(left, right) => match second {
-            Tree::And(l, r) => is_same_tree(left, l) && is_same_tree(right, r),
+            Tree::And(l, r) => {
+                is_same_tree(places, count, left, l) && is_same_tree(places, count, right, r)
+            }
             _ => false,
         },
         Tree::Or(left, right) => match second {
-            Tree::Or(l, r) => is_same_tree(left, l) && is_same_tree(right, r),
+            Tree::Or(l, r) => {
+                is_same_tree(places, count, left, l) && is_same_tree(places, count, right, r)
+            }
             _ => false,
         },
     }

@@ -46,6 +46,16 @@ fn push_pending(
     }
 }
 
+/// How many lines the kept event that receives from these senders has, with those of the receipts before it.
+fn line_count(senders: &[Sender], sends: bool) -> u64 {
+    let receipts = senders.len() as u64;
+    if sends {
+        receipts.saturating_add(1)
+    } else {
+        receipts.max(1)
+    }
+}
+
 /// Appends the lines of the kept event of this rank of process `p`, of which these variables are seen, and of the
 /// receipts before it. If its message isn't received, its own event is the last of the receipts.
 fn push_event(
@@ -83,11 +93,20 @@ fn senders_at(receipts: &Receipts, rank: usize) -> &[Sender] {
     }
 }
 
-/// The text of the stream of process `p`, of which these variables are seen.
+/// A stream that is made.
+#[derive(Drop)]
+struct MadeStream {
+    /// Its text.
+    text: Vec<u8>,
+    /// The numbers of its kept events, counted from 1.
+    numbers: Vec<u64>,
+}
+
+/// The stream of process `p`, of which these variables are seen.
 ///
 /// # Errors
 /// An allocation was refused.
-fn stream_text(
+fn made_stream(
     alloc: Global,
     names: &Names,
     p: usize,
@@ -95,36 +114,50 @@ fn stream_text(
     process: &ProcessOrder,
     receipts: &Receipts,
     received: &[bool],
-) -> Result<Vec<u8>, AllocError> {
+) -> Result<MadeStream, AllocError> {
     let mut text = Vec::new(alloc);
+    let mut numbers = Vec::with_capacity(alloc, receipts.ends.len())?;
+    let mut number = 0u64;
     push_join(&mut text, names, p)?;
     for rank in 0..receipts.ends.len() {
         let kept = Sender { process: p, rank };
         let senders = senders_at(receipts, rank);
         let sends = is_received(received, rank);
         push_event(&mut text, names, vars, process, senders, kept, sends)?;
+        number = number.saturating_add(line_count(senders, sends));
+        numbers.push(number)?;
     }
     push_end(&mut text)?;
-    Ok(text)
+    Ok(MadeStream { text, numbers })
 }
 
-/// The text of a stream for each process, in their order, by what each receives and whether its messages are received.
+/// The streams that are made.
+#[derive(Drop)]
+pub(crate) struct MadeStreams {
+    /// The text of each.
+    pub(crate) texts: Vec<Vec<u8>>,
+    /// Of each the numbers of its kept events, counted from 1.
+    pub(crate) numbers: Vec<Vec<u64>>,
+}
+
+/// A stream for each process, in their order, by what each receives and whether its messages are received.
 ///
 /// # Errors
 /// An allocation was refused.
-fn stream_texts(
+fn made_streams(
     alloc: Global,
     names: &Names,
     order: &Order,
     all: &[Receipts],
     received: &[Vec<bool>],
-) -> Result<Vec<Vec<u8>>, AllocError> {
+) -> Result<MadeStreams, AllocError> {
     let mut texts = Vec::with_capacity(alloc, all.len())?;
+    let mut numbers = Vec::with_capacity(alloc, all.len())?;
     let named = order.named();
     let processes = order.processes();
     for p in 0..all.len() {
         if p < named.len() && p < processes.len() && p < received.len() {
-            let text = stream_text(
+            let made = made_stream(
                 alloc,
                 names,
                 p,
@@ -133,13 +166,14 @@ fn stream_texts(
                 &all[p],
                 &received[p],
             )?;
-            texts.push(text)?;
+            texts.push(made.text)?;
+            numbers.push(made.numbers)?;
         }
     }
-    Ok(texts)
+    Ok(MadeStreams { texts, numbers })
 }
 
-/// The text of a stream for each process, in their order, or `None` if a process has more than 10,000 kept events.
+/// A stream for each process, in their order, or `None` if a process has more than 10,000 kept events.
 ///
 /// It takes time for the kept events, times the square of the number of processes and times the variables of their
 /// process that are seen, and memory for the texts and the receipts.
@@ -150,10 +184,10 @@ pub(crate) fn session_streams(
     alloc: Global,
     names: &Names,
     order: &Order,
-) -> Result<Option<Vec<Vec<u8>>>, AllocError> {
+) -> Result<Option<MadeStreams>, AllocError> {
     let Some(all) = all_receipts(alloc, order)? else {
         return Ok(None);
     };
     let received = all_received(alloc, order, &all)?;
-    Ok(Some(stream_texts(alloc, names, order, &all, &received)?))
+    Ok(Some(made_streams(alloc, names, order, &all, &received)?))
 }

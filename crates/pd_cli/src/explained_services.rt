@@ -146,6 +146,7 @@ fn put_seen_report<'a, T: RandomSource + Threads + Wait + Sync, F: FileSource, N
         streams,
         order: "Streams count in the order in which they connected.\n",
         notes: None,
+        run_limit: None,
     };
     put_report(out, rt, host.alloc, seen, host.gate.widest(), report);
     put_reasons(out, host.alloc, &host.service.fail_on, report);

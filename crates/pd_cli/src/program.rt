@@ -254,6 +254,15 @@ fn run_infer<Y: System, O: Write, E: Write>(
     report_infer(&end, errors)
 }
 
+/// Notes of what will be read, of this many streams too, if that is wanted and there is memory for them.
+fn stream_notes(alloc: Global, is_wanted: bool, streams: usize) -> Notes {
+    if is_wanted {
+        Notes::for_streams(alloc, streams)
+    } else {
+        Notes::new(alloc, false)
+    }
+}
+
 /// Writes a session that has the answers of the recorded run in files, and gives the exit status.
 fn run_reduce<Y: System, O: Write, E: Write>(
     world: &World<'_, Y>,
@@ -266,9 +275,19 @@ fn run_reduce<Y: System, O: Write, E: Write>(
         reduction.now.names.spec.now (session_view reduction.now.names).1 ending (O.contents output.old)
         (O.contents output.new)) result start (E.contents errors.new)) (E.contents errors.old) }
 {
+    let streams = reduction.names.streams.len();
+    let notes = stream_notes(world.alloc, world.explain, streams);
+    let world = World::<'_, Y> {
+        rt: world.rt,
+        files: world.files,
+        network: world.network,
+        alloc: world.alloc,
+        explain: world.explain,
+        notes: &notes,
+    };
     let mut unwritten = Unwritten::new();
-    let end = reduce_files(world, reduction, &mut unwritten, output);
-    let text = reduction_text(world, reduction, &unwritten, &end);
+    let end = reduce_files(&world, reduction, &mut unwritten, output);
+    let text = reduction_text(&world, reduction, &unwritten, &end);
     write_explanation(world.explain, &text, errors);
     report_reduction(&end, errors)
 }

@@ -102,8 +102,8 @@ impl FileSource for Files {
         })
     }
 
-    fn make_folder(&self, _alloc: Global, _name: &str) -> io::Result<()> {
-        Ok(())
+    fn make_folder(&self, _alloc: Global, _name: &str) -> io::Result<bool> {
+        Ok(true)
     }
 
     /// Those of another folder can't be given another name.
@@ -115,6 +115,10 @@ impl FileSource for Files {
     }
 
     fn remove(&self, _name: &str) -> io::Result<()> {
+        Ok(())
+    }
+
+    fn remove_folder(&self, _name: &str) -> io::Result<()> {
         Ok(())
     }
 }

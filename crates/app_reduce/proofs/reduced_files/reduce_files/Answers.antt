@@ -6,12 +6,11 @@ use Rattle.pd_spec.specs.Views.{options_view}
 use Rattle.app_host.specs.FileSources.{IsReadOf}
 use Rattle.app_host.proofs.UnreadFiles.{unread_check}
 use Rattle.app_reduce.specs.Reduced.{ReduceLeaves}
-use Rattle.app_reduce.proofs.FilesReduced.{of_read, unread_all, unread_streams}
+use Rattle.app_reduce.proofs.FilesReduced.{of_read, unread_all, unread_streams, unreserved}
 use Rattle.app_reduce.proofs.reduced_files.reduce_files.Goals as goal
 
-pub write_outcome-requires : goal.write_outcome-requires
-write_outcome-requires g c =
-    let bounds = c.type_bounds in
+pub write_outcome-end-requires-after_bounds : goal.write_outcome-end-requires-after_bounds
+write_outcome-end-requires-after_bounds g c = λ _ _.
     let options = options_view c.args.reduction.now.names.options in
     let files = g.Y.Files.FileSource.file_of c.args.world.now.files.now in
     let document = c.args.reduction.now.names.spec.now in
@@ -19,20 +18,15 @@ write_outcome-requires g c =
     let read : IsReadOf c.deref.result.now (files document).source =
     subst (λ (bytes : List ℕ). IsReadOf bytes (files document).source) (sym c.deref.ensures.value)
     c.in-Ok.ensures.document in
-    let come = of_read files options document (session_view c.args.reduction.now.names).1 c.deref.result.now lefts
-    c.in-Ok-reduced_run.outcome read c.in-Ok.ensures.streams c.in-Ok-reduced_run.ensures.outcome in (
-      bounds.send-Y-Files-File,
-      (
-        bounds.send-Y-Files-Sink,
-        (
-          bounds.send-Y-Network-Connection,
-          (
-            bounds.sync-Y-Runtime,
-            (bounds.sync-Y-Files, (bounds.sync-Y-Network, (bounds.sync-Y-Network-Listener, come))),
-          ),
-        ),
-      ),
-    )
+    of_read files options document (session_view c.args.reduction.now.names).1 c.deref.result.now lefts
+    c.in-Ok-reduced_run.outcome read c.in-Ok.ensures.streams c.in-Ok-reduced_run.ensures.outcome
+
+pub returns-in_default : goal.returns-in_default
+returns-in_default g c =
+    unreserved (g.Y.Files.FileSource.file_of c.args.world.now.files.now)
+    (options_view c.args.reduction.now.names.options) c.args.reduction.now.names.spec.now
+    (session_view c.args.reduction.now.names).1 c.in-Ok.read.document.items c.in-Ok.ensures.document
+    (g.O.Write.contents c.args.output.now)
 
 pub returns-in-Ok : goal.returns-in-Ok
 returns-in-Ok g c =

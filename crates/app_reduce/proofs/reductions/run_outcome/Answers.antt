@@ -5,7 +5,7 @@ use Rattle.judge_orders.specs.OrderViews.{HasOrder}
 use Rattle.judge_orders.specs.declared.long_order.KeptRun.{KeptRun}
 use Rattle.judge_session.specs.Inquiries.{inquiry_view}
 use Rattle.pd_spec.specs.Views.{document_view}
-use Rattle.app_reduce.proofs.RunsRead.{has_counts, is_run, some_process, unmade}
+use Rattle.app_reduce.proofs.RunsRead.{as_many_named, as_many_rows, has_counts, is_run, some_process, unmade}
 use Rattle.app_reduce.proofs.reductions.run_outcome.Goals as goal
 
 pub returns-in_default-clause-outcome : goal.returns-in_default-clause-outcome
@@ -34,6 +34,7 @@ returns-in-Some-found-clause-outcome g c = λ streams traces are ran.
       counts = has_counts inquiry streams document traces are c.args.run ran
           (record { processes = c.processes.result; events = c.args.run.events; messages = c.args.run.messages })
           (c.processes.ensures ∙ ap length c.names.ensures) refl refl;
-      reduction = found (recorded_of document traces) (some_process inquiry streams document traces are) refl
+      reduction = found (recorded_of document traces) (some_process inquiry streams document traces are)
+          (as_many_named inquiry streams document traces are) (as_many_rows inquiry streams document traces are) refl
           ran.formed.no_cycle order;
     }
