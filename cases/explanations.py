@@ -249,6 +249,39 @@ def lines():
     yield session("two streams are of one process", b=A + END)
 
 
+def runs():
+    """Runs of any length that are refused, or of which no session can be made or written."""
+    yield recorded("a run's document has too many processes",
+                   processes(*((f"p{number}", {}) for number in range(4_097))))
+    yield recorded("a run's document is too long", document() + " " * 262_144)
+    yield recorded("many streams of a run aren't there")._replace(
+        words=("reduce", "session.json", *(f"{number}.stream" for number in range(120)), "--to", "made"))
+    yield recorded("a process of a run has no stream")._replace(words=("reduce", "session.json", "a.stream", "--to",
+                                                                       "made"))
+    yield recorded("a value in a run isn't a whole number", a=A + '{"set":{"x":0.5}}\n' + END)
+    yield recorded("each of two processes of a run waits for the other", a=A + '{"recv":"m2"}\n{"send":"m1"}\n' + END,
+                   b=B + '{"recv":"m1"}\n{"send":"m2"}\n' + END)
+    names = [f"p{number}" for number in range(17)]
+    files = {f"{name}.stream": f'{{"process":"{name}"}}\n{END}' for name in names}
+    spec = document(" + ".join(f"{name}.x" for name in names) + " > 1",
+                    processes=[{"name": name, "vars": {"x": 0}} for name in names])
+    yield Case("predicates name too many processes for a session", {"session.json": spec, **files},
+               ("reduce", "session.json", *files, "--to", "made"))
+    yield recorded("a process would have too many events in a session", a=A + "".join(
+        f'{{"set":{{"x":{number % 2}}}}}\n' for number in range(1, 10_002)) + END)
+    yield recorded("the folder for a session is the one in which the program runs", to=".")
+    yield recorded("the folder for a session is a file", to="a.stream")
+    full = recorded("the folder for a session has a file", to="kept")
+    yield full._replace(files={**full.files, "kept": None, "kept/session.json": ""})
+    yield recorded("a session is made of a run", to="kept")
+
+
+def recorded(name, spec=None, a=A + '{"set":{"x":1}}\n' + END, to="made", **more):
+    """A case that reduces a run of two streams."""
+    case = session(name, spec, a, **more)
+    return case._replace(words=("reduce", *case.words[1:], "--to", to))
+
+
 def streams():
     yield Case("there are too many streams", {"session.json": document(), "a.stream": A + END},
                ("judge", "session.json", *["a.stream"] * 33))
@@ -467,6 +500,7 @@ KINDS = {
     "The list of streams": streams, "Messages": messages, "Answers": answers,
     "Notes": noted, "Unknown answers": unknown,
     "Reports that a check finds bad": checks,
+    "Runs of any length": runs,
     "What comes by a pipe or a connection": connections, "A bundle": bundles, "Faults": faults,
 }
 

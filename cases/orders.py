@@ -88,12 +88,12 @@ def order_of(session, predicates):
     return changes, before
 
 
-def reduction(session, predicates):
+def reduction(session, predicates, before=None):
     """The events of the reduction of a run: each kept event sends a message and sets what is named to what it is worth
     then, after a receipt from each latest kept event of another process that happened before it, unless that one was
-    known before or another kept event lies between."""
+    known before or another kept event lies between. A process that isn't named has none."""
     values, kept = kept_events(session, predicates)
-    before = happened_before(session)
+    before = happened_before(session) if before is None else before
     places = [(process, number) for process, numbers in enumerate(kept) for number in numbers]
     reduced = []
     for process, numbers in enumerate(kept):
@@ -113,9 +113,9 @@ def reduction(session, predicates):
     return reduced
 
 
-def truth(session, predicates):
-    """The true answers, by all cuts."""
-    cuts = consistent_cuts(session, happened_before(session))
+def truth(session, predicates, before=None):
+    """The true answers, by all cuts: of the events in their order, or in another one that is given."""
+    cuts = consistent_cuts(session, happened_before(session) if before is None else before)
     found = {}
     for name, predicate in predicates:
         satisfying = {cut for cut in cuts if holds(session, cut, predicate)}
@@ -204,10 +204,10 @@ def variant(draw, session, predicates):
     return found
 
 
-def draw_base(draw):
+def draw_base(draw, has_many=False):
     """A session that is judged, of not too many events, some of which `drawn.py` judges beyond the width."""
     while True:
-        session = draw_session(draw, False, draw.random() < 0.5)
+        session = draw_session(draw, has_many, draw.random() < 0.5)
         fine = session.version is not None and len(session.places) <= EVENTS and not first_fault(session)
         if fine and not cycle(session, happened_before(session)):
             session.width = draw.choice([1, 2, 3, 3, 5, 8, 4096])

@@ -26,7 +26,7 @@ SESSION = {"name", "document", "streams", "report", "report_beyond_width", "stat
 # What a run may say of its output and of its errors, and how that is compared.
 SAYS = {"output": bytes.__eq__, "output_begins": bytes.startswith, "output_has": bytes.__contains__,
         "output_ends": bytes.endswith, "errors": bytes.__eq__, "errors_begin": bytes.startswith}
-RUN = {"name", "words", "input", "files", "unreadable", "status", "room", "full", "holds", "written", *SAYS}
+RUN = {"name", "words", "input", "files", "unreadable", "status", "room", "full", "holds", "written", "absent", *SAYS}
 
 
 def data(value):
@@ -177,17 +177,24 @@ def run_once(place, case):
 
 
 def see_files(place, case):
-    """Looks at the files that a run leaves: the names in folders, and what is written."""
+    """Looks at the files that a run leaves: the names in folders, what is written, and what may not be there."""
     for folder, names in case.get("holds", {}).items():
+        if not os.path.isdir(os.path.join(place.folder, folder)):
+            raise Differs(f"there is no folder {folder}")
         found = sorted(os.listdir(os.path.join(place.folder, folder)))
         if found != sorted(names):
             differ(f"the files in {folder}", "\n".join(sorted(names)).encode(), "\n".join(found).encode())
     for name, words in case.get("written", {}).items():
+        if not os.path.isfile(os.path.join(place.folder, name)):
+            raise Differs(f"there is no file {name}")
         with open(os.path.join(place.folder, name), "rb") as file:
             given = file.read()
         wanted = place.run([data(word) for word in words])[1] if isinstance(words, list) else data(words)
         if given != wanted:
             differ(f"the file {name}", wanted, given)
+    for name in case.get("absent", []):
+        if os.path.lexists(os.path.join(place.folder, name)):
+            raise Differs(f"{name} is there, and shouldn't be")
 
 
 def tried(program, kind, case):
